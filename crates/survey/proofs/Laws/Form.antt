@@ -7,10 +7,11 @@ use Prim.Native.Nat.{ℕ, zero, suc, _+_, _*_, _≤_, _<_}
 use native.Mathlib.Omega.{arith}
 use lib.ListN.{length, getD, drop, length-map, drop-of-length-le}
 use lib.Seq.{drop-cons}
+use Rattle.coding.proofs.Laws.Bits.{before-suc}
 use Rattle.coding.specs.Bits.{bit, ones, onesBefore}
 use Rattle.survey.specs.Order.{Shape, Lists, noLists, kids, kidsIf, levels, keepIf, splitOf, form}
 use Rattle.survey.specs.Standing.{All, Mark, Here, Sized}
-use Rattle.survey.proofs.Laws.Order.{before-suc, all-map, all-at, all-of, all-move, sound-max, sound-mark, stands, length-levels, length-levels-suc}
+use Rattle.survey.proofs.Laws.Order.{all-map, all-at, all-of, all-move, sound-max, sound-mark, stands, length-levels, length-levels-suc}
 
 module _ {A : Type 0} (d : A) where
   head-of : (l : List A) (z : ℕ) (a : A) (r : List A) → drop z l ≡ a ∷ r → getD l z d ≡ a

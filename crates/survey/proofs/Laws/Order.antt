@@ -7,21 +7,10 @@ use Prim.Native.Nat.{ℕ, zero, suc, _+_, _*_, _<_}
 use native.Mathlib.Nat.{add-zero}
 use native.Mathlib.Omega.{arith}
 use lib.ListN.{length, getD, length-append}
-use Rattle.coding.specs.Bits.{bit, ones, onesBefore}
+use Rattle.coding.proofs.Laws.Bits.{before-suc}
+use Rattle.coding.specs.Bits.{bit, onesBefore}
 use Rattle.survey.specs.Order.{Shape, Lists, kidsIf, next, levels}
 use Rattle.survey.specs.Standing.{All, Max as MaxAt, Mark as MarkAt, Here as HereAt, startOf}
-
--- ---- ones
-
-pub before-suc : (l : List Bool) (z : ℕ) → onesBefore l (suc z) ≡ onesBefore l z + bit (getD l z false)
-before-suc [] zero = refl
-before-suc [] (suc z) = refl
-before-suc (b ∷ l) zero = omega arith
-before-suc (b ∷ l) (suc z) = omega (arith, before-suc l z)
-
-pub before-all : (l : List Bool) → onesBefore l (length l) ≡ ones l
-before-all [] = refl
-before-all (b ∷ l) = omega (arith, before-all l)
 
 -- ---- a statement about each element of a list by its place
 

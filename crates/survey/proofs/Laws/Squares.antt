@@ -7,13 +7,10 @@ use native.Mathlib.Decide.{decLt}
 use native.Mathlib.Omega.{arith}
 use lib.Dec.{eqb, ltb}
 use borrow.Author.Tests.{eqb-true, eq-eqb, ne-eqb}
-use Rattle.coding.specs.Bits.{bit}
+use Rattle.coding.proofs.Laws.Lists.{no-bit}
 use Rattle.survey.specs.Raster.{Raster, isReal}
 use Rattle.survey.specs.Square.{Bounds, none, span, join, boundsIf, boundsAt, greatestOr, leastOr, isUneven}
 use Rattle.survey.specs.Reading.{blockOf}
-
-pub no-bit : {A : Type 0} → true ≡ false → A
-no-bit e = absurd (omega (arith, ap bit e))
 
 -- ---- bounds within bounds
 

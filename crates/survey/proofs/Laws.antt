@@ -8,3 +8,5 @@ pub mod Reading
 pub mod Locality
 pub mod Presence
 pub mod Key
+pub mod Cells
+pub mod Accepting

@@ -15,7 +15,7 @@ fn byte_section(bytes: &[u8]) -> Vec<u8> {
     [&count(bytes.len())[..], bytes].concat()
 }
 
-fn bit_section(bits: &[bool]) -> Vec<u8> {
+pub fn bit_section(bits: &[bool]) -> Vec<u8> {
     let mut bytes = vec![0u8; bits.len().div_ceil(8)];
     for (i, &bit) in bits.iter().enumerate() {
         if bit {
@@ -78,7 +78,7 @@ fn take_bytes<'a>(bytes: &mut &'a [u8]) -> Option<&'a [u8]> {
     section(bytes, |n| n).map(|(_, body)| body)
 }
 
-fn take_bits(bytes: &mut &[u8]) -> Option<Vec<bool>> {
+pub fn take_bits(bytes: &mut &[u8]) -> Option<Vec<bool>> {
     let (n, body) = section(bytes, |n| n.div_ceil(8))?;
     let all: Vec<bool> = (0..body.len() * 8).map(|i| body[i / 8] >> (i % 8) & 1 == 1).collect();
     if all[n..].contains(&true) {
@@ -87,14 +87,14 @@ fn take_bits(bytes: &mut &[u8]) -> Option<Vec<bool>> {
     Some(all[..n].to_vec())
 }
 
-/// The list whose five sections the bytes are, if it is short enough and no number has a needless byte.
-pub fn unpacked(mut bytes: &[u8]) -> Option<Vec<u32>> {
-    let first = take_bytes(&mut bytes)?;
-    let more = take_bits(&mut bytes)?;
-    let second = take_bytes(&mut bytes)?;
-    let again = take_bits(&mut bytes)?;
-    let third = take_bytes(&mut bytes)?;
-    if !bytes.is_empty() || more.len() != first.len() || again.len() != second.len() || first.len() > LONGEST {
+/// Takes a list off the front: five sections that agree, in which no number has a needless byte.
+pub fn take_list(bytes: &mut &[u8]) -> Option<Vec<u32>> {
+    let first = take_bytes(bytes)?;
+    let more = take_bits(bytes)?;
+    let second = take_bytes(bytes)?;
+    let again = take_bits(bytes)?;
+    let third = take_bytes(bytes)?;
+    if more.len() != first.len() || again.len() != second.len() {
         return None;
     }
     let mut thirds = third.iter();
@@ -117,6 +117,11 @@ pub fn unpacked(mut bytes: &[u8]) -> Option<Vec<u32>> {
         return None;
     }
     Some(list)
+}
+
+/// The list that the bytes are, if it is short enough and nothing stands behind it.
+pub fn unpacked(mut bytes: &[u8]) -> Option<Vec<u32>> {
+    take_list(&mut bytes).filter(|list| bytes.is_empty() && list.len() <= LONGEST)
 }
 
 /// Look up an entry: 3, 8.

@@ -10,3 +10,6 @@ pub mod Presence
 pub mod Key
 pub mod Cells
 pub mod Accepting
+pub mod Lengths
+pub mod Levels
+pub mod Calls

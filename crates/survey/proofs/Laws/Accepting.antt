@@ -103,13 +103,18 @@ pub record Stored (f : List ℕ) : Type 0 where
   pub within : Survey survey
   pub stored : f ≡ fileOf survey
 
+-- of an accepted file, the survey that it says
+pub file-survey : (f : List ℕ) → isFile f ≡ true → Survey (surveyIn f)
+unfolding isFile
+file-survey f e = is-survey (surveyIn f) (and-left (isSurvey (surveyIn f)) (same (fileOf (surveyIn f)) f) e)
+
+pub file-stored : (f : List ℕ) → isFile f ≡ true → fileOf (surveyIn f) ≡ f
+unfolding isFile
+file-stored f e = same-eq (fileOf (surveyIn f)) f (and-right (isSurvey (surveyIn f)) (same (fileOf (surveyIn f)) f) e)
+
 -- THE LAW: accepted exactly if it is one
 pub accepted : (f : List ℕ) → isFile f ≡ true → Stored f
-unfolding isFile
-accepted f e =
-    let a = isSurvey (surveyIn f) in
-    let b = same (fileOf (surveyIn f)) f in
-    record { survey = surveyIn f; within = is-survey (surveyIn f) (and-left a b e); stored = sym (same-eq (fileOf (surveyIn f)) f (and-right a b e)) }
+accepted f e = record { survey = surveyIn f; within = file-survey f e; stored = sym (file-stored f e) }
 
 pub stored-accepted : (f : List ℕ) → Stored f → isFile f ≡ true
 unfolding isFile

@@ -54,6 +54,10 @@ pub side-covers : (rows columns : ℕ) → rows ≤ 2 ^ depthLimit → columns �
 unfolding depthFor
 side-covers rows columns h g = covers depthLimit (max rows columns) (omega arith)
 
+pub depth-most : (rows columns : ℕ) → depthFor rows columns ≤ depthLimit
+unfolding depthFor
+depth-most rows columns = at-most depthLimit (max rows columns)
+
 -- and every smaller power of two is
 pub side-least : (rows columns d : ℕ) → d < depthFor rows columns → 2 ^ d < max rows columns
 unfolding depthFor

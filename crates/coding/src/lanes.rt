@@ -7,7 +7,7 @@ use crate::bits;
 
 // A part of a list: of the numbers that are at least `from`, the byte of weight `by`, or whether they are at least `by`.
 #[repr(C)]
-#[derive(Drop)]
+#[derive(Clone, Copy)]
 pub struct Part {
     pub bits: bool,
     pub from: u32,

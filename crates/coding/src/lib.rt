@@ -1,4 +1,6 @@
 // The coding: bit sections, byte sections and difference lists over lent slices. It knows nothing of trees.
+#![tactic(auto)]
+
 pub mod bits;
 pub mod lanes;
 pub mod list;
@@ -15,7 +17,7 @@ const NUMBER_LIMIT: u32 = 16777216;
 
 // The number of a refusal, or 0. Beside it the bytes written or the ones counted, or with 6 the room needed.
 #[repr(C)]
-#[derive(Drop)]
+#[derive(Clone, Copy)]
 pub struct Amount {
     pub refusal: u32,
     pub amount: usize,
@@ -23,7 +25,7 @@ pub struct Amount {
 
 // The number of a refusal, or 0. Beside it an entry of a list.
 #[repr(C)]
-#[derive(Drop)]
+#[derive(Clone, Copy)]
 pub struct Entry {
     pub refusal: u32,
     pub number: u32,

@@ -9,7 +9,7 @@ use crate::{section, word};
 
 // Where the five parts of a list lie.
 #[repr(C)]
-#[derive(Drop)]
+#[derive(Clone, Copy)]
 pub struct Coded {
     pub first: Bytes,
     pub more: Bits,

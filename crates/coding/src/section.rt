@@ -8,7 +8,7 @@ use crate::{bits, word};
 
 // Where bytes lie in a file: n of them, from `at` on.
 #[repr(C)]
-#[derive(Drop)]
+#[derive(Clone, Copy)]
 pub struct Bytes {
     pub at: usize,
     pub n: usize,
@@ -16,7 +16,7 @@ pub struct Bytes {
 
 // Where bits lie in a file: n of them, in the bytes from `at` on; and where in an index their running counts stand.
 #[repr(C)]
-#[derive(Drop)]
+#[derive(Clone, Copy)]
 pub struct Bits {
     pub at: usize,
     pub n: usize,

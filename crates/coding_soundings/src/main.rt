@@ -1,4 +1,6 @@
 // Runs the coding over the soundings of the paper and over damaged lists, and prints every answer and every buffer.
+#![tactic(auto)]
+
 use libc::STDOUT_FILENO;
 
 fn say(n: u64) {

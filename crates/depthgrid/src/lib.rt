@@ -1,4 +1,6 @@
 // The boundary to C: the calls under their C names. A slice passes as a pointer and a count.
+#![tactic(auto)]
+
 ghost use Rattle.coding.specs.Calls.{Packs, LooksUp, CountsOnes};
 
 use coding::{Amount, Entry};

@@ -18,7 +18,7 @@ use squares::{Pair, Quad};
 use survey::sides;
 
 // Whether a square fits, and its pair if so.
-#[derive(Drop)]
+#[derive(Clone, Copy)]
 pub struct Found {
     pub ok: bool,
     pub pair: Pair,

@@ -1,4 +1,6 @@
 // Stored grids: where their lists lie, and the test of a file.
+#![tactic(auto)]
+
 pub mod check;
 pub mod places;
 

@@ -1,4 +1,6 @@
 // Raised levels, and the greatest and least of a square as a pair of them.
+#![tactic(auto)]
+
 ghost use Rattle.std.specs.Prelude.{◌≡◌, max, min};
 ghost use Rattle.survey.specs.Level.{raised, lowered, is_level, turned};
 ghost use Rattle.survey.specs.Square.{none};
@@ -6,7 +8,7 @@ ghost use Rattle.squares.specs.Pair.{pair_of, quad_in, above_of, uneven_of, drop
 
 // The greatest and least raised level of a square's real cells. Without any the greatest is 0 and the least 4,294,967,295, so that joining it changes nothing.
 #[repr(C)]
-#[derive(Drop)]
+#[derive(Clone, Copy)]
 pub struct Pair {
     pub hi: u32,
     pub lo: u32,
@@ -14,7 +16,7 @@ pub struct Pair {
 
 // The four pairs of a square's quarters.
 #[repr(C)]
-#[derive(Drop)]
+#[derive(Clone, Copy)]
 pub struct Quad {
     pub a: Pair,
     pub b: Pair,

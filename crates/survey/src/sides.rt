@@ -8,7 +8,7 @@ pub const SIDE_LIMIT: usize = 1024;
 pub const DEPTH_LIMIT: usize = 10;
 
 #[repr(C)]
-#[derive(Drop)]
+#[derive(Clone, Copy)]
 pub struct Side {
     pub side: usize,
     pub depth: usize,

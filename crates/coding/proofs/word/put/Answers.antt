@@ -1,0 +1,19 @@
+-- `coding::word::put` meets its contract: four stores, one after the other, are the four bytes of the number laid from `at` on.
+use native.Mathlib.Numerals.{towards_suc}
+use native.Mathlib.Omega.{arith}
+use lib.ListN.{length-set}
+use Rattle.coding.specs.Bytes.{word}
+use Rattle.coding.proofs.word.put.Goals as goal
+
+pub bounds-out-at-2 : goal.bounds-out-at-2
+bounds-out-at-2 c = simp length-set (omega arith)
+
+pub bounds-out-at-3 : goal.bounds-out-at-3
+bounds-out-at-3 c = simp length-set (omega arith)
+
+pub bounds-out-at-4 : goal.bounds-out-at-4
+bounds-out-at-4 c = simp length-set (omega arith)
+
+pub returns : goal.returns
+unfolding word
+returns c = simp towards_suc

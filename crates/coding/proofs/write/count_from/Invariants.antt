@@ -1,0 +1,17 @@
+-- `coding::write::count_from` meets its contract. The loop's invariant: what is counted and what is still to count make the whole.
+use mathlib.Core.Path.{◌≡◌, ap}
+use mathlib.Core.Logic.{⊎_elim}
+use Prim.Native.Nat.{◌+◌, ◌-◌, ◌≤◌}
+use native.Mathlib.Omega.{arith}
+use lib.ListN.{length, drop, get_or}
+use borrow.Author.Tests.{le-leb, lt-leb}
+use Rattle.coding.specs.Bits.{bit}
+use Rattle.coding.specs.Lanes.{count_from}
+use Rattle.coding.proofs.Laws.Items.{count_turn, count_end}
+use Rattle.coding.proofs.write.count_from.Given as goal
+
+abbrev pub invariant-loop-k : goal.invariant-loop-k
+invariant-loop-k l = (l.k ≤ length l.numbers) × ((l.n ≤ l.k) × (l.n + count_from l.low (drop l.k l.numbers) ≡ count_from l.low l.numbers))
+
+abbrev pub decreases-loop-k : goal.decreases-loop-k
+decreases-loop-k l = length l.numbers - l.k

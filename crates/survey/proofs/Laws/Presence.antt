@@ -87,6 +87,7 @@ module _ (A : Raster) where
   kid_in p (suc (suc (suc (suc i)))) h = absurd (omega arith)
 
   in_next : (p : Square) (i : ℕ) → i < 4 → is_split A p ≡ true → (l : List Square) → In p l → In (quarter p i) (next (squares A) l)
+  in_next p i h e [] m = elim m [ ]
   in_next p i h e (q ∷ l) (Memᴰ.head m) =
       Memᴰ.append_left (next (squares A) l)
       (subst (λ (t : Square). In (quarter p i) (kids_if (squares A) (is_split A t) t)) m (rw e (kid_in p i h)))

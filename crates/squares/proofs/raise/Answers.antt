@@ -1,5 +1,4 @@
 -- `squares::raise` meets its contract: a number of 32 bits, read at 64 bits and raised by 2,147,483,648, is not negative and fits 32 bits.
--- Assumes nothing.
 use mathlib.Core.Path.{◌≡◌, ◌∙◌, ap, subst⁻¹}
 use Prim.Native.Nat.{suc, ◌-◌, ◌<◌}
 use native.Mathlib.Nat.{add_comm}
@@ -13,8 +12,7 @@ use mir.ValLaws.{to_z-of_z}
 use mir.Facts.{sfits_widen}
 use borrow.Author.Tests.{le-ltb}
 use Rattle.survey.specs.Level.{raised}
-use Rattle.squares.proofs.raise.Statement.{statement}
-use Rattle.squares.proofs.raise.Tie as tie
+use Rattle.squares.proofs.raise.Goals as goal
 
 raised_is : (z : ℤ) → SFits w32 z → z +ℤ pos 2147483648 ≡ pos (raised z)
 raised_is (pos n) h = ap pos (add_comm n 2147483648)
@@ -40,19 +38,15 @@ module _ (z : ℤ) (h : SFits w32 z) where
   read : to_z w64 (of_z w64 (to_z w64 (of_z w64 (to_z w32 (of_z w32 z))) +ℤ pos 2147483648)) ≡ pos (raised z)
   read = ap (λ (y : ℤ). to_z w64 (of_z w64 y)) sum ∙ to_z-of_z w64 (pos (raised z)) fit
 
-cast-wide : tie.Need-overflow-cast-wide
-cast-wide c = subst⁻¹ (SFits w64) (to_z-of_z w32 c.args.z c.ranges.z) (sfits_widen tt c.ranges.z)
+pub overflow_cast-wide : goal.overflow_cast-wide
+overflow_cast-wide c = subst⁻¹ (SFits w64) (to_z-of_z w32 c.args.z c.ranges.z) (sfits_widen tt c.ranges.z)
 
-add-up : tie.Need-overflow-add-up
-add-up c = subst⁻¹ (SFits w64) (sum c.args.z c.ranges.z) (fit c.args.z c.ranges.z)
+pub overflow_add-up : goal.overflow_add-up
+overflow_add-up c = subst⁻¹ (SFits w64) (sum c.args.z c.ranges.z) (fit c.args.z c.ranges.z)
 
-cast-result : tie.Need-overflow-cast-result
-cast-result c =
-    subst⁻¹ (λ (y : ℤ). T (non_neg y) × Fits w32 (nat_abs y)) (read c.args.z c.ranges.z)
+pub overflow_cast-result : goal.overflow_cast-result
+overflow_cast-result c = subst⁻¹ (λ (y : ℤ). T (non_neg y) × Fits w32 (nat_abs y)) (read c.args.z c.ranges.z)
     (tt, record { fits = omega (arith, raised_small c.args.z c.ranges.z) })
 
-returns : tie.Need-returns
+pub returns : goal.returns
 returns c = ap nat_abs (read c.args.z c.ranges.z)
-
-pub raise_spec : {M : Type 1} → statement M
-raise_spec = tie.close (tie.spec cast-wide add-up cast-result returns)

@@ -70,17 +70,17 @@ pub get-n-requires : goal.get-n-requires
 get-n-requires c = omega (arith, (whole c).head)
 
 pub slice_bounds-body-count : goal.slice_bounds-body-count
-slice_bounds-body-count c = omega (arith, (whole ⟨PLACE Else-end-s⟩).head)
+slice_bounds-body-count c = omega (arith, (whole (goal.at.slice_bounds-body-count c).Else-end-s).head)
 
 pub slice_bounds-body-start : goal.slice_bounds-body-start
-slice_bounds-body-start c = omega (arith, (whole ⟨PLACE Else-end-s⟩).head)
+slice_bounds-body-start c = omega (arith, (whole (goal.at.slice_bounds-body-start c).Else-end-s).head)
 
 pub ones_to-amount-requires : goal.ones_to-amount-requires
-ones_to-amount-requires c = omega (arith, (whole ⟨PLACE Else-end-s⟩).body, c.get-n.ensures)
+ones_to-amount-requires c = omega (arith, (whole (goal.at.ones_to-amount-requires c).Else-end-s).body, c.get-n.ensures)
 
 pub returns : goal.returns
 returns c =
     let a = c.args in
     let n : length (bit_section (bits_at a.s.now)) ≡ length a.s.now =
-    omega (arith, end_is _ _ _ c.bits_end-end.ensures (starts ⟨PLACE Else-end-s⟩), c.if-end-s.false) in
-    a_section _ _ c.get-n.result c.ones_to-amount.result (starts_section _ (starts ⟨PLACE Else-end-s⟩) n) c.get-n.ensures c.ones_to-amount.ensures
+    omega (arith, end_is _ _ _ c.bits_end-end.ensures (starts (goal.at.returns c).Else-end-s), c.if-end-s.false) in
+    a_section _ _ c.get-n.result c.ones_to-amount.result (starts_section _ (starts (goal.at.returns c).Else-end-s) n) c.get-n.ensures c.ones_to-amount.ensures

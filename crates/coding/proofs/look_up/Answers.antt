@@ -69,12 +69,16 @@ whole : (c : Else-end-s) → WholeList c.args.s.now
 whole c = starts_list_lem _ (starts c)
 
 count : (c : After-get-n) → length (list_at c.args.s.now) ≡ c.get-n.result
-count c = list_length _ (whole ⟨PLACE Else-end-s⟩).five.first ∙ sym c.get-n.ensures
+count c =
+    let w = starts_list_lem c.args.s.now (end_starts _ _ _ c.end-end.ensures c.if-end-eq0.false) in
+    list_length _ w.five.first ∙ sym c.get-n.ensures
 
 list : (c : Else-n-gt-LIST_LIMIT) → is_list c.args.s.now ≡ true
 list c =
     let s = c.args.s.now in
-    starts_is s (starts ⟨PLACE Else-end-s⟩) (omega (arith, end_is _ _ _ c.end-end.ensures (starts ⟨PLACE Else-end-s⟩), c.if-end-s.false)) (omega (arith, count ⟨PLACE After-get-n⟩, c.if-n-gt-LIST_LIMIT.false))
+    let w = end_starts _ _ _ c.end-end.ensures c.if-end-eq0.false in
+    let n = list_length _ (starts_list_lem s w).five.first ∙ sym c.get-n.ensures in
+    starts_is s w (omega (arith, end_is _ _ _ c.end-end.ensures w, c.if-end-s.false)) (omega (arith, n, c.if-n-gt-LIST_LIMIT.false))
 
 pub get-n-requires : goal.get-n-requires
 get-n-requires c = omega (arith, (starts_bytes_lem _ (whole c).five.first).head)
@@ -82,13 +86,13 @@ get-n-requires c = omega (arith, (starts_bytes_lem _ (whole c).five.first).head)
 pub returns-then-n-gt-LIST_LIMIT : goal.returns-then-n-gt-LIST_LIMIT
 returns-then-n-gt-LIST_LIMIT c =
     let s = c.args.s.now in
-    no_list s _ (λ e. omega (arith, (is_list_lem s e).1, count ⟨PLACE After-get-n⟩, c.if-n-gt-LIST_LIMIT.true))
+    no_list s _ (λ e. omega (arith, (is_list_lem s e).1, count (goal.at.returns-then-n-gt-LIST_LIMIT c).After-get-n, c.if-n-gt-LIST_LIMIT.true))
 
 pub returns-then-n-i : goal.returns-then-n-i
-returns-then-n-i c = no_entry _ _ (list ⟨PLACE Else-n-gt-LIST_LIMIT⟩) (omega (arith, count ⟨PLACE After-get-n⟩, c.if-n-i.true))
+returns-then-n-i c = no_entry _ _ (list (goal.at.returns-then-n-i c).Else-n-gt-LIST_LIMIT) (omega (arith, count (goal.at.returns-then-n-i c).After-get-n, c.if-n-i.true))
 
 pub places-c-requires : goal.places-c-requires
-places-c-requires c = (whole ⟨PLACE Else-end-s⟩).five
+places-c-requires c = (whole (goal.at.places-c-requires c).Else-end-s).five
 
 pub entry-number-requires : goal.entry-number-requires
 entry-number-requires c = c.places-c.ensures.inside _
@@ -96,5 +100,5 @@ entry-number-requires c = c.places-c.ensures.inside _
 pub returns : goal.returns
 returns c =
     let a = c.args in
-    an_entry _ _ _ (list ⟨PLACE Else-n-gt-LIST_LIMIT⟩) (omega (arith, count ⟨PLACE After-get-n⟩, c.if-n-i.false))
-    (c.entry-number.ensures.0 ∙ ap (λ q. entry_of q a.i) c.places-c.ensures.parts ∙ sym (list_entry a.s.now a.i (whole ⟨PLACE Else-end-s⟩).agrees))
+    an_entry _ _ _ (list (goal.at.returns c).Else-n-gt-LIST_LIMIT) (omega (arith, count (goal.at.returns c).After-get-n, c.if-n-i.false))
+    (c.entry-number.ensures.0 ∙ ap (λ q. entry_of q a.i) c.places-c.ensures.parts ∙ sym (list_entry a.s.now a.i (whole (goal.at.returns c).Else-end-s).agrees))

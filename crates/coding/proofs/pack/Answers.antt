@@ -58,39 +58,38 @@ returns-then-count_from-gt0 c =
     refused l a.out.now 1 (refusal_range l (omega arith) (omega (arith, c.count_from.ensures.0)))
 
 -- where all is counted
-abbrev begun : tie.After-count-from3 → tie.Start
-begun q = q.before.before.before.before.before.before.before
-
-none_large : (q : After-count_from-n3) → count_from number_limit (begun q).args.numbers.now ≡ 0
+none_large : (q : After-count_from-n3) → count_from number_limit q.args.numbers.now ≡ 0
 none_large q = omega (arith, q.count_from.ensures.0)
 
-none_refused : (q : After-count_from-n3) → pack_refusal (begun q).args.numbers.now ≡ 0
-none_refused q = no_refusal (begun q).args.numbers.now (omega arith) (none_large q)
+none_refused : (q : After-count_from-n3) → pack_refusal q.args.numbers.now ≡ 0
+none_refused q = no_refusal q.args.numbers.now (omega arith) (none_large q)
 
-abbrev needed : tie.After-count-from3 → ℕ
+abbrev needed : After-count_from-n3 → ℕ
 needed q =
-    let n = length (begun q).args.numbers.now in
-    let m = q.before.count-from2.result in
-    20 + n + (n + 7) / 8 + m + (m + 7) / 8 + q.count-from3.result
+    let n = length q.args.numbers.now in
+    let m = q.count_from-n2.result in
+    20 + n + (n + 7) / 8 + m + (m + 7) / 8 + q.count_from-n3.result
 
-needed_is : (q : After-count_from-n3) → needed q ≡ length (packed (begun q).args.numbers.now)
-needed_is q = omega (arith, length-packed (begun q).args.numbers.now, q.count_from-n2.ensures.0, q.count_from-n3.ensures.0)
+needed_is : (q : After-count_from-n3) → needed q ≡ length (packed q.args.numbers.now)
+needed_is q = omega (arith, length-packed q.args.numbers.now, q.count_from-n2.ensures.0, q.count_from-n3.ensures.0)
 
 pub returns-then-out-need : goal.returns-then-out-need
 returns-then-out-need c =
-    let a = (begun ⟨PLACE After-count_from-n3⟩).args in
-    short a.numbers.now a.out.now (needed ⟨PLACE After-count_from-n3⟩) (none_refused ⟨PLACE After-count_from-n3⟩) (needed_is ⟨PLACE After-count_from-n3⟩) (omega arith)
+    let q = (goal.at.returns-then-out-need c).After-count_from-n3 in
+    short c.args.numbers.now c.args.out.now (needed q) (none_refused q) (needed_is q) (omega arith)
 
 pub list-requires : goal.list-requires
-list-requires c = record {
+list-requires c =
+    let q = (goal.at.list-requires c).After-count_from-n3 in
+    record {
       all = refl;
       two = c.count_from-n2.ensures.0;
       three = c.count_from-n3.ensures.0;
-      range = count_below number_limit (begun ⟨PLACE After-count_from-n3⟩).args.numbers.now (none_large ⟨PLACE After-count_from-n3⟩);
-      fits = omega (arith, needed_is ⟨PLACE After-count_from-n3⟩);
+      range = count_below number_limit c.args.numbers.now (none_large q);
+      fits = omega (arith, needed_is q);
     }
 
 pub returns : goal.returns
 returns c =
-    let a = (begun ⟨PLACE After-count_from-n3⟩).args in
-    done a.numbers.now a.out.now (needed ⟨PLACE After-count_from-n3⟩) c.list.new.0 (none_refused ⟨PLACE After-count_from-n3⟩) (needed_is ⟨PLACE After-count_from-n3⟩) (omega arith) c.list.ensures
+    let q = (goal.at.returns c).After-count_from-n3 in
+    done c.args.numbers.now c.args.out.now (needed q) c.list.new.out (none_refused q) (needed_is q) (omega arith) c.list.ensures

@@ -3,15 +3,15 @@
 use mathlib.Core.Path.{◌≡◌, ◌∙◌, ap, sym}
 use mathlib.Core.List.{List}
 use mathlib.Core.Logic.{◌⊎◌, ⊎_elim}
-use Prim.Native.Nat.{ℕ, ◌+◌, ◌-◌, ◌*◌, ◌≤◌, ◌<◌}
+use Prim.Native.Nat.{ℕ, ◌+◌, ◌*◌, ◌<◌}
 use native.Mathlib.Nat.{eq-or-lt_of_le}
 use native.Mathlib.Omega.{arith}
 use lib.ListN.{length, get_or, set, length-set}
 use lib.Seq.{get_or-set_same, get_or-set_other}
 use Rattle.coding.specs.Places.{ones_in}
 use Rattle.coding.proofs.Laws.Bits.{ones_in_le, index_made}
-use Rattle.coding.proofs.bits.make_index.Invariants.{Inv}
 use Rattle.coding.proofs.bits.make_index.Goals as goal
+use Rattle.coding.proofs.bits.make_index.Goals.{then-to-e, else-to-e}
 
 -- one more is stored
 one_more : (f : ℕ → ℕ) (x : List ℕ) (b v : ℕ) → b < length x → v ≡ f b → ((k : ℕ) → k < b → get_or x k 0 ≡ f k)
@@ -45,9 +45,13 @@ loop-b-preserved c =
     record {
       count = simp length-set a.invariant.count;
       within = omega arith;
-      sums = ⊎_elim (λ w. λ l. omega (arith, ap (ones_in c.args.s.now) n)) (λ w. λ l. absurd (omega arith)) c.if-to-e.branch;
+      sums =
+          elim c.if-to-e.branch [
+            | then-to-e w ↦ λ l. omega (arith, ap (ones_in c.args.s.now) n)
+            | else-to-e w ↦ λ l. absurd (omega arith)
+          ];
       stored = one_more (λ k. ones_in c.args.s.now (64 * k)) a.index a.b a.sum h e a.invariant.stored;
     }
 
 pub returns : goal.returns
-returns c = index_made _ _ _ c.requires.0.0 c.requires.0.1 (omega arith) (λ k h. c.loop-b.invariant.stored k (omega arith))
+returns c = index_made _ _ _ c.requires.n_bound.0 c.requires.n_bound.1 (omega arith) (λ k h. c.loop-b.invariant.stored k (omega arith))

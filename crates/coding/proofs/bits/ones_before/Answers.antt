@@ -8,4 +8,7 @@ pub overflow_cast-index : goal.overflow_cast-index
 overflow_cast-index c = omega (arith, c.shared_slice_known-then-b-index-1.given (c.args.z / 512))
 
 pub ones_from-requires : goal.ones_from-requires
-ones_from-requires c = ((c.requires.0.fits, c.requires.0.small), (c.requires.1, omega arith, block_of c.requires.0 c.args.z c.requires.1 (omega arith)))
+ones_from-requires c = record {
+  n_bound = (c.requires.index.fits, c.requires.index.small);
+  z_lt_n = (c.requires.z_lt_n, omega arith, block_of c.requires.index c.args.z c.requires.z_lt_n (omega arith));
+}

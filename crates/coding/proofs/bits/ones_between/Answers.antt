@@ -1,9 +1,8 @@
 -- `coding::bits::ones_between` meets its contract. The invariant of both loops: the ones in the bytes from i to `at` are `sum`.
 use mathlib.Core.Path.{◌≡◌, ap}
-use Prim.Native.Nat.{◌-◌}
 use native.Mathlib.Omega.{arith}
 use Rattle.coding.specs.Places.{ones_in}
-use Rattle.coding.proofs.Laws.Bits.{Sum, ones_in_one}
+use Rattle.coding.proofs.Laws.Bits.{ones_in_one}
 use Rattle.coding.proofs.bits.ones_between.Goals as goal
 
 pub loop-at-2-preserved : goal.loop-at-2-preserved

@@ -3,7 +3,7 @@ use mathlib.Core.Path.{◌≡◌, ap}
 use Prim.Native.Nat.{◌+◌, ◌-◌}
 use native.Mathlib.Omega.{arith}
 use Rattle.coding.specs.Places.{ones_in}
-use Rattle.coding.proofs.Laws.Bits.{Word, word_none, word_room, word_fits, word_more}
+use Rattle.coding.proofs.Laws.Bits.{word_none, word_room, word_fits, word_more}
 use Rattle.coding.proofs.bits.ones_of_eight.Goals as goal
 
 pub loop-k-init : goal.loop-k-init

@@ -24,29 +24,31 @@ module _ (p : Part) (v d : ℕ) (h : p.from ≤ v) (b : Bool) (g : p.bits ≡ b)
 
 pub put_bit-requires : goal.put_bit-requires
 put_bit-requires c =
-    let a = c.args in (
-      c.requires.0.0,
-      room_one a.p a.v a.d c.if-from-v.true true c.if-bits.true a.starts.now a.cur.now a.out.now c.requires.1,
-    )
+    let a = c.args in
+    record {
+      d_in_bounds = c.requires.d_in_bounds.0;
+      room = room_one a.p a.v a.d c.if-from-v.true true c.if-bits.true a.starts.now a.cur.now a.out.now c.requires.room;
+    }
 
 pub put_byte-requires : goal.put_byte-requires
 put_byte-requires c =
-    let a = c.args in (
-      c.requires.0.0,
-      room_one a.p a.v a.d c.if-from-v.true false c.if-bits.false a.starts.now a.cur.now a.out.now c.requires.1,
-    )
+    let a = c.args in
+    record {
+      d_in_bounds = c.requires.d_in_bounds.0;
+      room = room_one a.p a.v a.d c.if-from-v.true false c.if-bits.false a.starts.now a.cur.now a.out.now c.requires.room;
+    }
 
 pub returns-then-bits : goal.returns-then-bits
 returns-then-bits c =
     let a = c.args in
     put_one a.p a.v a.d c.if-from-v.true true c.if-bits.true a.starts.now a.cur.now a.out.now
-    c.put_bit.new.1.0 c.put_bit.new.1.1.0 c.put_bit.ensures
+    c.put_bit.new.cur c.put_bit.new.out c.put_bit.ensures
 
 pub returns-else-bits : goal.returns-else-bits
 returns-else-bits c =
     let a = c.args in
     put_one a.p a.v a.d c.if-from-v.true false c.if-bits.false a.starts.now a.cur.now a.out.now
-    c.put_byte.new.1.0 c.put_byte.new.1.1.0 c.put_byte.ensures
+    c.put_byte.new.cur c.put_byte.new.out c.put_byte.ensures
 
 pub returns-else-from-v : goal.returns-else-from-v
 returns-else-from-v c =

@@ -12,14 +12,14 @@ within : (c : After-shared_slice_known-1)
     get_or a.starts.now a.d 0 + get_or a.cur.now a.d 0 < get_or a.starts.now (suc a.d) 0
 within c =
     let a = c.args in
-    at_in a.starts.now a.cur.now a.out.now a.d a.v c.requires.0 c.requires.1
+    at_in a.starts.now a.cur.now a.out.now a.d a.v c.requires.d_in_bounds c.requires.room
 
 most : (c : After-shared_slice_known-1)
     → let a = c.args in
     get_or a.starts.now (suc a.d) 0 ≤ length a.out.now
 most c =
     let a = c.args in
-    at_most a.starts.now a.cur.now a.out.now a.d a.v c.requires.0 c.requires.1
+    at_most a.starts.now a.cur.now a.out.now a.d a.v c.requires.d_in_bounds c.requires.room
 
 pub overflow_add-at : goal.overflow_add-at
 overflow_add-at c = omega (arith, within c, c.shared_slice_known-1.given (suc c.args.d))
@@ -36,4 +36,4 @@ overflow_add-cur c = omega (arith, within c, c.shared_slice_known-1.given (suc c
 pub returns : goal.returns
 returns c =
     let a = c.args in
-    put_one a.starts.now a.cur.now a.out.now a.d a.v c.requires.0 c.requires.1
+    put_one a.starts.now a.cur.now a.out.now a.d a.v c.requires.d_in_bounds c.requires.room

@@ -1,14 +1,9 @@
 -- `coding::lanes::start` meets its contract: each turn writes one sum more.
-use mathlib.Core.Path.{◌≡◌, refl, ◌∙◌}
+use mathlib.Core.Path.{◌≡◌}
 use mathlib.Core.List.{List}
-use Prim.Native.Nat.{ℕ, suc, ◌+◌, ◌-◌, ◌≤◌, ◌<◌, ◌^◌}
-use native.Mathlib.Numerals.{add-one}
-use native.Mathlib.Decide.{dec_lt}
-use native.Mathlib.Omega.{arith}
-use lib.ListN.{length, get_or, set, length-set}
-use lib.Seq.{get_or-set_same, get_or-set_other}
+use Prim.Native.Nat.{ℕ, ◌-◌, ◌≤◌}
+use lib.ListN.{length, get_or}
 use Rattle.coding.specs.Lanes.{total}
-use Rattle.coding.proofs.Laws.Lanes.{total_most}
 use Rattle.coding.proofs.lanes.start.Given as goal
 
 -- the first i + 1 starts are written
@@ -16,9 +11,6 @@ pub record Sums (counts starts₀ starts : List ℕ) (i : ℕ) : Type 0 where
   pub within : i ≤ length counts
   pub long : length starts ≡ length starts₀
   pub sums : (e : ℕ) → e ≤ i → get_or starts e 0 ≡ total counts e
-
-pub long : (c : tie.At-loop invariant-loop decreases-loop) → length c.loop.starts ≡ length c.before.args.counts.now + 1
-long c = omega (arith, c.loop.invariant.long, length-set c.before.args.starts.now 0 0)
 
 abbrev pub invariant-loop-i : goal.invariant-loop-i
 invariant-loop-i l = Sums l.counts l.initial.starts l.starts l.i

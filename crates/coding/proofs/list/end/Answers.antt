@@ -34,29 +34,42 @@ first c = bytes_ended (rest_from _ _) c.bytes_end-a.ensures c.if-a-eq0.false
 
 more : (c : Else-b-eq0) → let a = c.args in
     BitsEnded a.f.now c.bytes_end-a.result (s1 (drop a.at a.f.now)) c.bits_end-b.result
-more c = bits_ended (first ⟨PLACE Else-a-eq0⟩).next c.bits_end-b.ensures c.if-b-eq0.false
+more c =
+    let p = bytes_ended (rest_from c.args.f.now c.args.at) c.bytes_end-a.ensures c.if-a-eq0.false in
+    bits_ended p.next c.bits_end-b.ensures c.if-b-eq0.false
 
 second : (c : Else-c-eq0) → let a = c.args in
     BytesEnded a.f.now c.bits_end-b.result (s2 (drop a.at a.f.now)) c.bytes_end-c.result
-second c = bytes_ended (more ⟨PLACE Else-b-eq0⟩).next c.bytes_end-c.ensures c.if-c-eq0.false
+second c =
+    let p = bytes_ended (rest_from c.args.f.now c.args.at) c.bytes_end-a.ensures c.if-a-eq0.false in
+    let q = bits_ended p.next c.bits_end-b.ensures c.if-b-eq0.false in
+    bytes_ended q.next c.bytes_end-c.ensures c.if-c-eq0.false
 
 again : (c : Else-d-eq0) → let a = c.args in
     BitsEnded a.f.now c.bytes_end-c.result (s3 (drop a.at a.f.now)) c.bits_end-d.result
-again c = bits_ended (second ⟨PLACE Else-c-eq0⟩).next c.bits_end-d.ensures c.if-d-eq0.false
+again c =
+    let p = bytes_ended (rest_from c.args.f.now c.args.at) c.bytes_end-a.ensures c.if-a-eq0.false in
+    let q = bits_ended p.next c.bits_end-b.ensures c.if-b-eq0.false in
+    let r = bytes_ended q.next c.bytes_end-c.ensures c.if-c-eq0.false in
+    bits_ended r.next c.bits_end-d.ensures c.if-d-eq0.false
 
 third : (c : Else-e-eq0) → let a = c.args in
     BytesEnded a.f.now c.bits_end-d.result (s4 (drop a.at a.f.now)) c.bytes_end-e.result
-third c = bytes_ended (again ⟨PLACE Else-d-eq0⟩).next c.bytes_end-e.ensures c.if-e-eq0.false
+third c =
+    let p = bytes_ended (rest_from c.args.f.now c.args.at) c.bytes_end-a.ensures c.if-a-eq0.false in
+    let q = bits_ended p.next c.bits_end-b.ensures c.if-b-eq0.false in
+    let r = bytes_ended q.next c.bytes_end-c.ensures c.if-c-eq0.false in
+    let s = bits_ended r.next c.bits_end-d.ensures c.if-d-eq0.false in
+    bytes_ended s.next c.bytes_end-e.ensures c.if-e-eq0.false
 
 five : (c : Else-e-eq0) → let a = c.args in
     Five (drop a.at a.f.now)
-five c = record {
-  first = (first ⟨PLACE Else-a-eq0⟩).is;
-  more = (more ⟨PLACE Else-b-eq0⟩).is;
-  second = (second ⟨PLACE Else-c-eq0⟩).is;
-  again = (again ⟨PLACE Else-d-eq0⟩).is;
-  third = (third c).is;
-}
+five c =
+    let p = bytes_ended (rest_from c.args.f.now c.args.at) c.bytes_end-a.ensures c.if-a-eq0.false in
+    let q = bits_ended p.next c.bits_end-b.ensures c.if-b-eq0.false in
+    let r = bytes_ended q.next c.bytes_end-c.ensures c.if-c-eq0.false in
+    let s = bits_ended r.next c.bits_end-d.ensures c.if-d-eq0.false in
+    record { first = p.is; more = q.is; second = r.is; again = s.is; third = (third c).is }
 
 -- where they end
 ends : (s : List ℕ) (at a b c d e : ℕ) → a ≡ at + length (byte_section (bytes_at s)) → b ≡ a + length (bit_section (bits_at (s1 s)))
@@ -73,16 +86,16 @@ returns-then-a-eq0 c =
     no_end _ _ (λ w. bytes_unended (rest_from a.f.now a.at) c.bytes_end-a.ensures c.if-a-eq0.true (starts_list_lem _ w).five.first)
 
 pub returns-then-b-eq0 : goal.returns-then-b-eq0
-returns-then-b-eq0 c = no_end _ _ (λ w. bits_unended (first ⟨PLACE Else-a-eq0⟩).next c.bits_end-b.ensures c.if-b-eq0.true (starts_list_lem _ w).five.more)
+returns-then-b-eq0 c = no_end _ _ (λ w. bits_unended (first (goal.at.returns-then-b-eq0 c).Else-a-eq0).next c.bits_end-b.ensures c.if-b-eq0.true (starts_list_lem _ w).five.more)
 
 pub returns-then-c-eq0 : goal.returns-then-c-eq0
-returns-then-c-eq0 c = no_end _ _ (λ w. bytes_unended (more ⟨PLACE Else-b-eq0⟩).next c.bytes_end-c.ensures c.if-c-eq0.true (starts_list_lem _ w).five.second)
+returns-then-c-eq0 c = no_end _ _ (λ w. bytes_unended (more (goal.at.returns-then-c-eq0 c).Else-b-eq0).next c.bytes_end-c.ensures c.if-c-eq0.true (starts_list_lem _ w).five.second)
 
 pub returns-then-d-eq0 : goal.returns-then-d-eq0
-returns-then-d-eq0 c = no_end _ _ (λ w. bits_unended (second ⟨PLACE Else-c-eq0⟩).next c.bits_end-d.ensures c.if-d-eq0.true (starts_list_lem _ w).five.again)
+returns-then-d-eq0 c = no_end _ _ (λ w. bits_unended (second (goal.at.returns-then-d-eq0 c).Else-c-eq0).next c.bits_end-d.ensures c.if-d-eq0.true (starts_list_lem _ w).five.again)
 
 pub returns-then-e-eq0 : goal.returns-then-e-eq0
-returns-then-e-eq0 c = no_end _ _ (λ w. bytes_unended (again ⟨PLACE Else-d-eq0⟩).next c.bytes_end-e.ensures c.if-e-eq0.true (starts_list_lem _ w).five.third)
+returns-then-e-eq0 c = no_end _ _ (λ w. bytes_unended (again (goal.at.returns-then-e-eq0 c).Else-d-eq0).next c.bytes_end-e.ensures c.if-e-eq0.true (starts_list_lem _ w).five.third)
 
 pub places-requires : goal.places-requires
 places-requires c = five c
@@ -96,9 +109,9 @@ returns-then-sound c =
     let s = drop a.at a.f.now in
     let y = bytes_drop a.at a.f.now (λ i h. (c.shared_slice_known-1.given i).fits) in
     let g : agree (parts_at (drop a.at a.f.now)) ≡ true = ap agree (sym c.places.ensures.parts) ∙ sym c.sound.ensures ∙ c.if-sound.true in
-    an_end _ _ _ (whole_list s y (five ⟨PLACE Else-e-eq0⟩) g)
-    (ends s a.at _ _ _ _ _ (first ⟨PLACE Else-a-eq0⟩).at (more ⟨PLACE Else-b-eq0⟩).at (second ⟨PLACE Else-c-eq0⟩).at (again ⟨PLACE Else-d-eq0⟩).at (third ⟨PLACE Else-e-eq0⟩).at
-    ∙ ap (λ l. a.at + length l) (sym (five_list s y (five ⟨PLACE Else-e-eq0⟩) g)))
+    an_end _ _ _ (whole_list s y (five (goal.at.returns-then-sound c).Else-e-eq0) g)
+    (ends s a.at _ _ _ _ _ (first (goal.at.returns-then-sound c).Else-a-eq0).at (more (goal.at.returns-then-sound c).Else-b-eq0).at (second (goal.at.returns-then-sound c).Else-c-eq0).at (again (goal.at.returns-then-sound c).Else-d-eq0).at (third (goal.at.returns-then-sound c).Else-e-eq0).at
+    ∙ ap (λ l. a.at + length l) (sym (five_list s y (five (goal.at.returns-then-sound c).Else-e-eq0) g)))
 
 pub returns : goal.returns
 returns c = no_end _ _ (λ w. no_bit (sym (c.sound.ensures ∙ ap agree c.places.ensures.parts ∙ (starts_list_lem _ w).agrees) ∙ c.if-sound.false))

@@ -2,8 +2,7 @@
 use mathlib.Core.Path.{◌≡◌, refl, sym, ap, ◌∙◌}
 use mathlib.Core.Bool.{Bool, true, false, ◌||◌, ◌&&◌, not}
 use mathlib.Core.List.{List, [], ◌∷◌}
-use mathlib.Core.Logic.{⊎_elim}
-use Prim.Native.Nat.{ℕ, zero, suc, ◌+◌, ◌-◌, ◌≤◌, ◌<◌}
+use Prim.Native.Nat.{ℕ, zero, suc, ◌+◌, ◌≤◌, ◌<◌}
 use native.Mathlib.Numerals.{add-one}
 use native.Mathlib.Omega.{arith}
 use borrow.Author.Tests.{ne_eqb}
@@ -14,6 +13,7 @@ use Rattle.coding.specs.Places.{bytes_in, bits_in, none_idle}
 use Rattle.coding.proofs.Laws.Lists.{no_bit}
 use Rattle.coding.proofs.Laws.Places.{length_bytes, without_counts}
 use Rattle.coding.proofs.list.none_idle.Goals as goal
+use Rattle.coding.proofs.list.none_idle.Goals.{then-byte-eq0+else-not-bit, else-byte-eq0}
 
 -- ---- one byte
 
@@ -62,19 +62,21 @@ pub returns-then-not-bit : goal.returns-then-not-bit
 returns-then-not-bit c =
     let a = c.args in
     sym (idle_here (bytes_in a.f.now a.p) (bits_in a.f.now a.again) c.loop-i.i (omega (arith, length_bytes c.requires.0))
-    (sym c.byte.ensures.0 ∙ c.if-byte-eq0.true) (ap not (sym c.bit.ensures) ∙ c.if-not-bit.true))
+    (sym c.byte.ensures.0 ∙ c.if-byte-eq0.true) (ap not (sym c.bit.ensures ∙ c.if-not-bit.true)))
     ∙ c.loop-i.invariant.1
 
 pub loop-i-preserved : goal.loop-i-preserved
 loop-i-preserved c =
     let a = c.args in
     let h : c.loop-i.i < length (bytes_in a.f.now a.p) = omega (arith, length_bytes c.requires.0) in
-    let m = bits_in a.f.now a.again in (
-      search rules,
-      ⊎_elim (λ w. marked_here _ m _ h (ap not (sym w.2.ensures) ∙ w.3.left))
-          (λ w. not_zero-here _ m _ h (λ e. w.left (c.byte.ensures.0 ∙ e))) c.if-byte-eq0.branch
-          ∙ c.loop-i.invariant.1,
-    )
+    let m = bits_in a.f.now a.again in
+    let same : none_idle (drop (c.loop-i.i + 1) (bytes_in a.f.now a.p)) (drop (c.loop-i.i + 1) m)
+    ≡ none_idle (drop c.loop-i.i (bytes_in a.f.now a.p)) (drop c.loop-i.i m) =
+    elim c.if-byte-eq0.branch [
+      | then-byte-eq0+else-not-bit w ↦ marked_here _ m _ h (ap not (sym w.bit.ensures ∙ w.if-not-bit.false))
+      | else-byte-eq0 w ↦ not_zero-here _ m _ h (λ e. w.if-byte-eq0.false (c.byte.ensures.0 ∙ e))
+    ] in
+    (omega arith, same ∙ c.loop-i.invariant.1)
 
 pub returns : goal.returns
 returns c =

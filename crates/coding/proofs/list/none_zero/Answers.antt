@@ -43,7 +43,7 @@ returns-then-f-i-eq0 c =
 pub loop-i-preserved : goal.loop-i-preserved
 loop-i-preserved c =
     let a = c.args in (
-      search rules,
+      omega arith,
       not_here a.f.now c.loop-i.i (a.p.at + a.p.n) c.loop-i-test.true c.requires.inside c.if-f-i-eq0.false ∙ c.loop-i.invariant.1,
     )
 

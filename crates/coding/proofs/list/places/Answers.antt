@@ -15,25 +15,39 @@ first c =
 
 more : (c : After-get-n2) → let a = c.args in
     BitsFrom a.f.now (a.at + 4 + c.get-n1.result) (after_bytes (drop a.at a.f.now)) c.get-n2.result
-more c = bits_from (first ⟨PLACE After-get-n1⟩).next c.requires.more c.get-n2.ensures (omega arith)
+more c =
+    let p = bytes_from (rest_from c.args.f.now c.args.at) c.requires.first c.get-n1.ensures in
+    bits_from p.next c.requires.more c.get-n2.ensures (omega arith)
 
 second : (c : After-get-n3) → let a = c.args in
     BytesFrom a.f.now (a.at + 4 + c.get-n1.result + 4 + (c.get-n2.result + 7) / 8)
     (after_bits (after_bytes (drop a.at a.f.now))) c.get-n3.result
-second c = bytes_from (more ⟨PLACE After-get-n2⟩).next c.requires.second c.get-n3.ensures
+second c =
+    let p = bytes_from (rest_from c.args.f.now c.args.at) c.requires.first c.get-n1.ensures in
+    let q = bits_from p.next c.requires.more c.get-n2.ensures (omega arith) in
+    bytes_from q.next c.requires.second c.get-n3.ensures
 
 again : (c : After-get-n4) → let a = c.args in
     BitsFrom a.f.now
     (a.at + 4 + c.get-n1.result + 4 + (c.get-n2.result + 7) / 8 + 4 + c.get-n3.result)
     (after_bytes (after_bits (after_bytes (drop a.at a.f.now)))) c.get-n4.result
-again c = bits_from (second ⟨PLACE After-get-n3⟩).next c.requires.again c.get-n4.ensures (omega arith)
+again c =
+    let p = bytes_from (rest_from c.args.f.now c.args.at) c.requires.first c.get-n1.ensures in
+    let q = bits_from p.next c.requires.more c.get-n2.ensures (omega arith) in
+    let r = bytes_from q.next c.requires.second c.get-n3.ensures in
+    bits_from r.next c.requires.again c.get-n4.ensures (omega arith)
 
 third : (c : After-get-n5) → let a = c.args in
     BytesFrom a.f.now
     (a.at + 4 + c.get-n1.result + 4 + (c.get-n2.result + 7) / 8 + 4
     + c.get-n3.result + 4 + (c.get-n4.result + 7) / 8)
     (after_bits (after_bytes (after_bits (after_bytes (drop a.at a.f.now))))) c.get-n5.result
-third c = bytes_from (again ⟨PLACE After-get-n4⟩).next c.requires.third c.get-n5.ensures
+third c =
+    let p = bytes_from (rest_from c.args.f.now c.args.at) c.requires.first c.get-n1.ensures in
+    let q = bits_from p.next c.requires.more c.get-n2.ensures (omega arith) in
+    let r = bytes_from q.next c.requires.second c.get-n3.ensures in
+    let s = bits_from r.next c.requires.again c.get-n4.ensures (omega arith) in
+    bytes_from s.next c.requires.third c.get-n5.ensures
 
 -- ---- the function
 
@@ -95,10 +109,10 @@ pub returns : goal.returns
 unfolding parts_at
 returns c =
     let e = third c in
-    let d = again ⟨PLACE After-get-n4⟩ in
-    let k = second ⟨PLACE After-get-n3⟩ in
-    let b = more ⟨PLACE After-get-n2⟩ in
-    let a = first ⟨PLACE After-get-n1⟩ in
+    let d = again (goal.at.returns c).After-get-n4 in
+    let k = second (goal.at.returns c).After-get-n3 in
+    let b = more (goal.at.returns c).After-get-n2 in
+    let a = first (goal.at.returns c).After-get-n1 in
     record {
       parts = λ i. record { first = a.is i; more = b.is i; second = k.is i; again = d.is i; third = e.is i };
       inside = λ x. record { first = bytes_in_lem a; more = bits_in_lem b x; second = bytes_in_lem k; again = bits_in_lem d x; third = bytes_in_lem e };

@@ -35,35 +35,31 @@ agree_last p a b c d e =
 
 -- ---- the function
 
-abbrev start : tie.After-struct-known2 → tie.Start
-start c = c.before.before.before.before.before.before.before.before
-
 pub returns-then-more-first : goal.returns-then-more-first
 returns-then-more-first c =
-    let h = (start ⟨PLACE After-struct_known-2-1⟩).requires in
+    let h = c.requires in
     no_agree _ (λ g. c.if-more-first.true (omega (arith, g.more, length_bytes h.first, length_bits h.more)))
 
 pub returns-then-second-ones : goal.returns-then-second-ones
 returns-then-second-ones c =
-    let h = (start ⟨PLACE After-struct_known-2-1⟩).requires in
+    let h = c.requires in
     no_agree _ (λ g. c.if-second-ones.true (omega (arith, g.second, length_bytes h.second, c.ones.ensures)))
 
 pub returns-then-again-second : goal.returns-then-again-second
 returns-then-again-second c =
-    let h = (start ⟨PLACE After-struct_known-2-1⟩).requires in
+    let h = c.requires in
     no_agree _ (λ g. c.if-again-second.true (omega (arith, g.again, length_bytes h.second, length_bits h.again)))
 
 pub returns-then-third-ones : goal.returns-then-third-ones
 returns-then-third-ones c =
-    let h = (start ⟨PLACE After-struct_known-2-1⟩).requires in
+    let h = c.requires in
     no_agree _ (λ g. c.if-third-ones.true (omega (arith, g.third, length_bytes h.third, c.ones-2.ensures)))
 
 pub returns-then-none_idle : goal.returns-then-none_idle
 returns-then-none_idle c =
-    let s = start ⟨PLACE After-struct_known-2-1⟩ in
-    let h = s.pre in
+    let h = c.requires in
     c.none_zero.ensures
-    ∙ agree_last (parts_in s.args.f.now s.args.c)
+    ∙ agree_last (parts_in c.args.f.now c.args.c)
     (omega (arith, c.if-more-first.false, length_bytes h.first, length_bits h.more))
     (omega (arith, c.if-second-ones.false, length_bytes h.second, c.ones.ensures))
     (omega (arith, c.if-again-second.false, length_bytes h.second, length_bits h.again))

@@ -11,10 +11,11 @@ use Rattle.coding.proofs.section.ones_before.Goals as goal
 
 pub ones_before-requires : goal.ones_before-requires
 ones_before-requires c =
-    let a = c.args in (
-      index_part a.f.now a.p.at c.requires.0.right,
-      set_in a.p.n (all_bits (drop a.p.at a.f.now)) a.z c.requires.1,
-    )
+    let a = c.args in
+    record {
+      index = index_part a.f.now a.p.at c.requires.in_bits.right;
+      z_lt_n = set_in a.p.n (all_bits (drop a.p.at a.f.now)) a.z c.requires.false_value;
+    }
 
 pub returns : goal.returns
 returns c =
@@ -25,7 +26,7 @@ returns c =
       omega (
         arith,
         before_le (bits_in a.f.now a.p) a.z,
-        c.requires.0.right.small,
-        set_in a.p.n (all_bits (drop a.p.at a.f.now)) a.z c.requires.1,
+        c.requires.in_bits.right.small,
+        set_in a.p.n (all_bits (drop a.p.at a.f.now)) a.z c.requires.false_value,
       ),
     )

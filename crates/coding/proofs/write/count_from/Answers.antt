@@ -1,14 +1,12 @@
 -- `coding::write::count_from` meets its contract. The loop's invariant: what is counted and what is still to count make the whole.
-use mathlib.Core.Path.{◌≡◌, ap}
-use mathlib.Core.Logic.{⊎_elim}
-use Prim.Native.Nat.{◌+◌, ◌-◌, ◌≤◌}
+use mathlib.Core.Path.{ap}
 use native.Mathlib.Omega.{arith}
-use lib.ListN.{length, drop, get_or}
+use lib.ListN.{get_or}
 use borrow.Author.Tests.{le-leb, lt-leb}
 use Rattle.coding.specs.Bits.{bit}
-use Rattle.coding.specs.Lanes.{count_from}
 use Rattle.coding.proofs.Laws.Items.{count_turn, count_end}
 use Rattle.coding.proofs.write.count_from.Goals as goal
+use Rattle.coding.proofs.write.count_from.Goals.{then-low-numbers, else-low-numbers}
 
 pub loop-k-preserved : goal.loop-k-preserved
 loop-k-preserved c =
@@ -16,10 +14,12 @@ loop-k-preserved c =
     let l = a.numbers.now in
     let k = c.loop-k.k in
     let t = count_turn l k a.low (omega arith) in
-    ⊎_elim
-    (λ w. (omega arith, (omega arith, omega (arith, t, ap bit (le-leb a.low (get_or l k 0) w.0.taken)))))
-    (λ w. (omega arith, (omega arith, omega (arith, t, ap bit (lt-leb a.low (get_or l k 0) w.0.left)))))
-    c.if-low-numbers.branch
+    elim c.if-low-numbers.branch [
+      | then-low-numbers w ↦
+          (omega arith, (omega (arith, w.n-is), omega (arith, w.n-is, t, ap bit (le-leb a.low (get_or l k 0) w.if-low-numbers.true))))
+      | else-low-numbers w ↦
+          (omega arith, (omega (arith, w.n-is), omega (arith, w.n-is, t, ap bit (lt-leb a.low (get_or l k 0) w.if-low-numbers.false))))
+    ]
 
 pub returns : goal.returns
 returns c =

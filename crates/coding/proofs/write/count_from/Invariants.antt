@@ -1,13 +1,8 @@
 -- `coding::write::count_from` meets its contract. The loop's invariant: what is counted and what is still to count make the whole.
-use mathlib.Core.Path.{◌≡◌, ap}
-use mathlib.Core.Logic.{⊎_elim}
+use mathlib.Core.Path.{◌≡◌}
 use Prim.Native.Nat.{◌+◌, ◌-◌, ◌≤◌}
-use native.Mathlib.Omega.{arith}
-use lib.ListN.{length, drop, get_or}
-use borrow.Author.Tests.{le-leb, lt-leb}
-use Rattle.coding.specs.Bits.{bit}
+use lib.ListN.{length, drop}
 use Rattle.coding.specs.Lanes.{count_from}
-use Rattle.coding.proofs.Laws.Items.{count_turn, count_end}
 use Rattle.coding.proofs.write.count_from.Given as goal
 
 abbrev pub invariant-loop-k : goal.invariant-loop-k

@@ -1,14 +1,14 @@
 -- `coding::write::fill` meets its contract. The numbers fill a single lane. The loop's invariant: there is room for what is still to be put, and once it is put, all is.
 use mathlib.Core.Path.{◌≡◌, refl, sym, ◌∙◌, ap}
 use mathlib.Core.List.{List, [], ◌∷◌, ◌++◌}
-use Prim.Native.Nat.{ℕ, zero, suc, ◌+◌, ◌-◌, ◌<◌, ◌≤◌}
+use Prim.Native.Nat.{ℕ, zero, suc, ◌+◌, ◌<◌, ◌≤◌}
 use native.Mathlib.Omega.{arith}
 use lib.ListN.{length, drop, get_or}
 use Rattle.coding.specs.Lanes.{view_of, item_of, items_of, only, then, total, Room, Put, Started}
 use Rattle.coding.specs.declared.lanes.Part.{Part}
 use Rattle.coding.proofs.Laws.Items.{items_turn, items_end}
 use Rattle.coding.proofs.Laws.Lanes.{only-append, only_none, put_none, put_same, put_then, room_same, room_left, room_right, Fresh, room_start, full}
-use Rattle.coding.proofs.write.fill.Invariants.{load, Filling}
+use Rattle.coding.proofs.write.fill.Invariants.{load}
 use Rattle.coding.proofs.write.fill.Goals as goal
 
 -- the lane from 0 to n, with nothing put yet, has room for all, and is full once all is put
@@ -61,11 +61,13 @@ pub put-requires : goal.put-requires
 put-requires c =
     let a = c.args in
     let l = a.numbers.now in
-    let k = c.loop-k.k in (
-      (omega (arith, c.loop-k.invariant.one), c.requires.0),
-      room_left (only 0 (item_of a.p (get_or l k 0))) (load a.p (drop (k + 1) l))
-          (room_same (turn a.p l k (omega arith)) c.loop-k.invariant.room),
-    )
+    let k = c.loop-k.k in
+    record {
+      d_in_bounds = (omega (arith, c.loop-k.invariant.one), c.requires.0);
+      room =
+          room_left (only 0 (item_of a.p (get_or l k 0))) (load a.p (drop (k + 1) l))
+          (room_same (turn a.p l k (omega arith)) c.loop-k.invariant.room);
+    }
 
 pub loop-k-preserved : goal.loop-k-preserved
 loop-k-preserved c =
@@ -76,8 +78,8 @@ loop-k-preserved c =
     let i = c.loop-k.invariant in
     record {
       within = omega arith;
-      one = c.put.auto.1.1.0 ∙ i.one;
-      long = c.put.auto.1.1.1.0 ∙ i.long;
+      one = c.put.auto.cur ∙ i.one;
+      long = c.put.auto.out ∙ i.long;
       room =
           room_right (only 0 (item_of a.p (get_or l k 0))) (load a.p (drop (k + 1) l)) (room_same (turn a.p l k h) i.room)
           c.put.ensures;

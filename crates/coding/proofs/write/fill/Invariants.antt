@@ -1,13 +1,10 @@
 -- `coding::write::fill` meets its contract. The numbers fill a single lane. The loop's invariant: there is room for what is still to be put, and once it is put, all is.
-use mathlib.Core.Path.{◌≡◌, refl, sym, ◌∙◌, ap}
-use mathlib.Core.List.{List, [], ◌∷◌, ◌++◌}
-use Prim.Native.Nat.{ℕ, zero, suc, ◌+◌, ◌-◌, ◌<◌, ◌≤◌}
-use native.Mathlib.Omega.{arith}
-use lib.ListN.{length, drop, get_or}
-use Rattle.coding.specs.Lanes.{view_of, item_of, items_of, only, then, total, Room, Put, Started}
+use mathlib.Core.Path.{◌≡◌}
+use mathlib.Core.List.{List}
+use Prim.Native.Nat.{ℕ, ◌-◌, ◌≤◌}
+use lib.ListN.{length, drop}
+use Rattle.coding.specs.Lanes.{view_of, items_of, only, Room, Put}
 use Rattle.coding.specs.declared.lanes.Part.{Part}
-use Rattle.coding.proofs.Laws.Items.{items_turn, items_end}
-use Rattle.coding.proofs.Laws.Lanes.{only-append, only_none, put_none, put_same, put_then, room_same, room_left, room_right, Fresh, room_start, full}
 use Rattle.coding.proofs.write.fill.Given as goal
 
 -- what is still to be put

@@ -13,37 +13,38 @@ use Rattle.coding.proofs.write.section.Goals.{After-put, Start}
 four : (c : Start) → 4 ≤ length c.args.out.now
 four c = omega (arith, c.requires.2)
 
-count_in_lem : (w : After-put) → 4 ≤ length w.put.new.0
+count_in_lem : (w : After-put) → 4 ≤ length w.put.new.out
 count_in_lem w =
-    omega (arith, four ⟨PLACE Start⟩, begun_long w.args.out.now w.put.new.0 w.args.n (four ⟨PLACE Start⟩) w.put.ensures)
+    let h : 4 ≤ length w.args.out.now = omega (arith, w.requires.2) in
+    omega (arith, h, begun_long w.args.out.now w.put.new.out w.args.n h w.put.ensures)
 
 pub put-requires : goal.put-requires
-put-requires c = simp length-set (four ⟨PLACE Start⟩)
+put-requires c = simp length-set (four (goal.at.put-requires c).Start)
 
 pub slice_bounds-fill-count : goal.slice_bounds-fill-count
-slice_bounds-fill-count c = count_in_lem ⟨PLACE After-put⟩
+slice_bounds-fill-count c = count_in_lem (goal.at.slice_bounds-fill-count c).After-put
 
 pub slice_bounds-fill-start : goal.slice_bounds-fill-start
-slice_bounds-fill-start c = count_in_lem ⟨PLACE After-put⟩
+slice_bounds-fill-start c = count_in_lem (goal.at.slice_bounds-fill-start c).After-put
 
 pub fill-requires : goal.fill-requires
 fill-requires c =
     let a = c.args in
-    let x = c.put.new.0 in (
+    let x = c.put.new.out in (
       c.requires.0,
       c.requires.1,
       view_holds a.p.bits a.n (mid_of 4 (length x - 4) x)
-          (omega (arith, c.requires.2, body_long a.out.now x a.n (four ⟨PLACE Start⟩) c.put.ensures)),
+          (omega (arith, c.requires.2, body_long a.out.now x a.n (four (goal.at.fill-requires c).Start) c.put.ensures)),
     )
 
 pub shape_of-out : goal.shape_of-out
 shape_of-out c =
-    let x = c.put.new.0 in
-    same_len_mid 4 (length x - 4) x c.fill.new.0 c.fill.auto.0
-    ∙ begun_long c.args.out.now x c.args.n (four ⟨PLACE Start⟩) c.put.ensures
+    let x = c.put.new.out in
+    same_len_mid 4 (length x - 4) x c.fill.new.out c.fill.auto.out
+    ∙ begun_long c.args.out.now x c.args.n (four (goal.at.shape_of-out c).Start) c.put.ensures
 
 pub returns : goal.returns
 returns c =
     let a = c.args in
-    section_written a.out.now c.put.new.0 a.n (four ⟨PLACE Start⟩) c.put.ensures a.p.bits (items_of a.p a.numbers.now) c.fill.new.0
-    c.requires.1 c.requires.2 c.fill.auto.0 (λ i. (c.slice_known-3-1.given i).fits) c.fill.ensures
+    section_written a.out.now c.put.new.out a.n (four (goal.at.returns c).Start) c.put.ensures a.p.bits (items_of a.p a.numbers.now) c.fill.new.out
+    c.requires.1 c.requires.2 c.fill.auto.out (λ i. (c.slice_known-3-1.given i).fits) c.fill.ensures

@@ -15,6 +15,6 @@ returns c =
     let e = a.at + (4 + c.size.result) in
     let g : a.at + (4 + c.size.result) ≤ length x = omega (arith, c.size.ensures.0, c.requires.2) in (
       ap (λ n. a.at + (4 + n)) c.size.ensures.0,
-      written_at a.p.bits (items_of a.p a.numbers.now) x c.section.new.0 a.at e c.section.ensures (omega arith) g
-          (c.section.auto.0 ∙ mid_len a.at e x g),
+      written_at a.p.bits (items_of a.p a.numbers.now) x c.section.new.out a.at e c.section.ensures (omega arith) g
+          (c.section.auto.out ∙ mid_len a.at e x g),
     )

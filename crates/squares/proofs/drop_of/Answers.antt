@@ -1,6 +1,5 @@
 -- `squares::drop_of` meets its contract, by its two tests.
 use native.Mathlib.Omega.{arith}
-use borrow.Author.Rules.{rules}
 use borrow.Author.Tests.{le-leb, lt-leb}
 use Rattle.squares.proofs.drop_of.Goals as goal
 

@@ -1,5 +1,4 @@
 -- `squares::fold` meets its contract: what `larger` and `smaller` ensure is what the pair above has.
-use borrow.Author.Rules.{rules}
 use Rattle.squares.specs.Pair.{above_of}
 use Rattle.squares.proofs.fold.Goals as goal
 

@@ -5,7 +5,6 @@ use Prim.Native.Nat.{ℕ, ◌≤◌, ◌<◌}
 use lib.Dec.{leb}
 use mir.Syntax.{w32}
 use mir.ValLaws.{to_z-of_z}
-use borrow.Author.Rules.{rules}
 use borrow.Author.Tests.{le-leb, lt-leb}
 use Rattle.survey.specs.Level.{raised, is_level, lowest_level, highest_level}
 use Rattle.squares.proofs.is_level.Goals as goal

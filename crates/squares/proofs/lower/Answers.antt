@@ -1,7 +1,6 @@
 -- `squares::lower` meets its contract: what is left of a 32-bit number below 2,147,483,648, or above it, is a signed 32-bit number.
 use mathlib.Core.Path.{◌≡◌, ◌∙◌, ap, subst⁻¹}
 use native.Mathlib.Omega.{arith}
-use borrow.Author.Rules.{rules}
 use lib.IntN.{ℤ, pos, ◌-ℤ◌}
 use mir.Facts.{sfits_widen}
 use mir.Syntax.{w32, w64}

@@ -1,7 +1,6 @@
 -- `survey::sides::depth_for` meets its contract: the loop counts the sides of the table that are below the greater of rows and columns.
-use mathlib.Core.Path.{◌≡◌, refl, sym, ap, ◌∙◌}
-use mathlib.Core.Logic.{⊎_elim}
-use Prim.Native.Nat.{ℕ, ◌+◌, ◌-◌, ◌^◌, ◌≤◌, ◌<◌, max}
+use mathlib.Core.Path.{◌≡◌, refl, ap, ◌∙◌}
+use Prim.Native.Nat.{ℕ, ◌+◌, ◌^◌, ◌≤◌, ◌<◌, max}
 use native.Mathlib.Numerals.{add-one}
 use native.Mathlib.Omega.{arith}
 use lib.Dec.{ltb}
@@ -25,7 +24,7 @@ more rows columns n depth depth' k h l e s = record {
 pub loop-k-init : goal.loop-k-init
 loop-k-init c =
     let g : c.if-n-columns.n ≡ max c.args.rows c.args.columns =
-        elim c.if-n-columns.branch [ then-n-columns w ↦ omega arith | else-n-columns w ↦ omega arith ] in
+    elim c.if-n-columns.branch [ then-n-columns w ↦ omega arith | else-n-columns w ↦ omega arith ] in
     record { place = omega arith; most = omega arith; count = refl; greater = g }
 
 pub loop-k-preserved : goal.loop-k-preserved
@@ -35,10 +34,10 @@ loop-k-preserved c =
     let n = c.if-n-columns.n in
     let a = c.args in
     elim c.if-side-n.branch [
-      then-side-n w ↦
+      | then-side-n w ↦
           more a.rows a.columns n l.depth c.if-side-n.depth l.k l.invariant c.loop-k-test.true
           (omega (arith, w.depth-is, ap bit (lt-ltb (2 ^ l.k) n (omega (arith, side, w.if-side-n.true))))) (omega (arith, w.depth-is))
-    | else-side-n w ↦
+      | else-side-n w ↦
           more a.rows a.columns n l.depth c.if-side-n.depth l.k l.invariant c.loop-k-test.true
           (omega (arith, w.depth-is, ap bit (le-ltb (2 ^ l.k) n (omega (arith, side, w.if-side-n.false))))) (omega (arith, w.depth-is))
     ]

@@ -1,14 +1,7 @@
 -- `survey::sides::depth_for` meets its contract: the loop counts the sides of the table that are below the greater of rows and columns.
-use mathlib.Core.Path.{◌≡◌, refl, sym, ap, ◌∙◌}
-use mathlib.Core.Logic.{⊎_elim}
-use Prim.Native.Nat.{ℕ, ◌+◌, ◌-◌, ◌^◌, ◌≤◌, ◌<◌, max}
-use native.Mathlib.Numerals.{add-one}
-use native.Mathlib.Omega.{arith}
-use lib.Dec.{ltb}
-use borrow.Author.Tests.{lt-ltb, le-ltb}
-use Rattle.coding.specs.Bits.{bit}
-use Rattle.survey.specs.Sides.{depth_limit, depth_for, powers_below}
-use Rattle.survey.specs.declared.sides.Side.{Side}
+use mathlib.Core.Path.{◌≡◌}
+use Prim.Native.Nat.{ℕ, ◌-◌, ◌≤◌, max}
+use Rattle.survey.specs.Sides.{depth_limit, powers_below}
 use Rattle.survey.proofs.sides.depth_for.Given as goal
 
 -- `depth` of the sides 0 to k - 1 are below n

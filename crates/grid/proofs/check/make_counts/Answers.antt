@@ -1,16 +1,13 @@
 -- `grid::check::make_counts` meets its contract: each part is made behind those before it, so they are as they were.
--- Assumes nothing.
 use mathlib.Core.List.{List}
 use Prim.Native.Nat.{ℕ}
 use native.Mathlib.Omega.{arith}
-use borrow.Author.Rules.{rules}
 use Rattle.coding.specs.Places.{InBits, InCoded}
 use Rattle.coding.specs.declared.section.Bits.{Bits}
 use Rattle.coding.specs.declared.list.Coded.{Coded}
 use Rattle.grid.specs.Places.{Indexed, Countable}
 use Rattle.grid.proofs.Laws.Counts.{indexed_kept}
-use Rattle.grid.proofs.check.make_counts.Statement.{statement}
-use Rattle.grid.proofs.check.make_counts.Tie as tie
+use Rattle.grid.proofs.check.make_counts.Goals as goal
 
 all_made : {f x a b d e g : List ℕ} {split : Bits} {max min : Coded} {room : ℕ} → Countable f split max min room → Indexed f x a split
     → Indexed f a b max.more → Indexed f b d max.again → Indexed f d e min.more → Indexed f e g min.again
@@ -31,24 +28,5 @@ all_made h i j k l m =
       record { first = h.min_first; more = indexed_kept m h.four l.inside; second = h.min_second; again = m.inside; third = h.min_third },
     )
 
-returns : tie.Need-returns
-returns c =
-    let e = c.before.before in
-    let d = e.before.before.before.before in
-    let b = d.before.before.before.before in
-    let a = b.before.before.before.before in
-    let z = a.before.before.before.before in
-    let s = z.before.before.before.before.before.before.before.before in
-    all_made s.requires z.make-counts.ensures a.make-counts2.ensures b.make-counts3.ensures d.make-counts4.ensures e.make-counts5.ensures
-
-pub make_counts_spec : {M : Type 1} → statement M
-make_counts_spec =
-    tie.close
-    (tie.spec
-    (λ c κs. search rules)
-    (λ c κs. search rules)
-    (λ c κs. search rules)
-    (λ c κs. search rules)
-    (λ c κs. search rules)
-    (λ c. search rules)
-    returns)
+pub returns : goal.returns
+returns c = all_made c.requires c.make_counts.ensures c.make_counts-2.ensures c.make_counts-3.ensures c.make_counts-4.ensures c.make_counts-5.ensures

@@ -1,5 +1,4 @@
 -- `grid::test` meets its contract: an accepted file's heading is that of the survey that it says.
--- Assumes nothing.
 use mathlib.Core.Path.{◌≡◌, refl, sym, ap, ◌∙◌}
 use mathlib.Core.Bool.{true, false}
 use mathlib.Core.List.{List}
@@ -7,7 +6,6 @@ use Prim.Native.Nat.{ℕ, ◌≤◌, ◌<◌}
 use native.Mathlib.Omega.{arith}
 use lib.IntN.{ℤ, pos}
 use lib.ListN.{length}
-use borrow.Author.Rules.{rules}
 use mir.Syntax.{w32}
 use mir.Val.{to_z, of_z}
 use mir.ValLaws.{to_z-of_z}
@@ -16,8 +14,8 @@ use Rattle.survey.specs.Reading.{rows_in, columns_in, greatest_in, least_in, sur
 use Rattle.survey.specs.Calls.{Tests, test_refusal}
 use Rattle.survey.proofs.Laws.Levels.{lowered_fits}
 use Rattle.grid.proofs.Laws.Sound.{is_headed_lem, file_headed, greatest_is, least_is}
-use Rattle.grid.proofs.test.Statement.{statement}
-use Rattle.grid.proofs.test.Tie as tie
+use Rattle.grid.proofs.test.Goals as goal
+use Rattle.grid.proofs.test.Goals.{Then-is_file}
 
 -- what the function gives back of an unsigned level
 given : {v w : ℕ} {g : ℤ} → v < 4294967296 → g ≡ lowered v → v ≡ w → to_z w32 (of_z w32 g) ≡ lowered w
@@ -43,45 +41,26 @@ unaccepted f e = record { answer = rw e refl }
 long : (f : List ℕ) → is_file f ≡ true → 20 ≤ length f
 long f e = (is_headed_lem f (file_headed f e)).long
 
-is_it : (c : tie.Then1) → is_file c.before.before.before.args.f.now ≡ true
-is_it c = sym c.before.is-file.ensures ∙ c.if1.true
+is_it : (c : Then-is_file) → is_file c.args.f.now ≡ true
+is_it c = sym c.is_file.ensures ∙ c.if-is_file.true
 
-get-requires : tie.Need-get-requires
-get-requires c κs = omega (arith, long _ (is_it c))
+pub get-requires : goal.get-requires
+get-requires c = omega (arith, long _ (is_it c))
 
-get-requires-2 : tie.Need-get-requires-2
-get-requires-2 c κs = omega (arith, long _ (is_it c.before.before))
+pub get-requires-then-is_file : goal.get-requires-then-is_file
+get-requires-then-is_file c = omega (arith, long _ (is_it (goal.at.get-requires-then-is_file c).Then-is_file))
 
-get-requires-3 : tie.Need-get-requires-3
-get-requires-3 c κs = omega (arith, long _ (is_it c.before.before.before.before))
+pub get-requires-then-is_file-2 : goal.get-requires-then-is_file-2
+get-requires-then-is_file-2 c = omega (arith, long _ (is_it (goal.at.get-requires-then-is_file-2 c).Then-is_file))
 
-get-requires-4 : tie.Need-get-requires-4
-get-requires-4 c κs = omega (arith, long _ (is_it c.before.before.before.before.before))
+pub get-requires-then-is_file-3 : goal.get-requires-then-is_file-3
+get-requires-then-is_file-3 c = omega (arith, long _ (is_it (goal.at.get-requires-then-is_file-3 c).Then-is_file))
 
-returns : tie.Need-returns
-returns c =
-    let n = c.before.before in
-    let u = n.before.before in
-    let t = u.before.before in
-    let e = is_it t.before.before in
-    accepted _ e n.before.get3.ensures n.get4.ensures (given (omega arith) c.before.lower.ensures (t.turn.ensures ∙ ap turned t.before.get.ensures))
-    (given (omega arith) c.lower2.ensures (u.turn2.ensures ∙ ap turned u.before.get2.ensures))
+pub returns-then-is_file : goal.returns-then-is_file
+returns-then-is_file c =
+    let e = is_it (goal.at.returns-then-is_file c).Then-is_file in
+    accepted _ e c.get-then-is_file-2.ensures c.get-then-is_file-3.ensures (given (omega arith) c.lower.ensures (c.turn-top.ensures ∙ ap turned c.get.ensures))
+    (given (omega arith) c.lower-then-is_file.ensures (c.turn-low.ensures ∙ ap turned c.get-then-is_file.ensures))
 
-returns-2 : tie.Need-returns-2
-returns-2 c = unaccepted _ (sym c.before.is-file.ensures ∙ c.if1.false)
-
-pub test_spec : {M : Type 1} → statement M
-test_spec =
-    tie.close
-    (tie.spec
-    (λ c κs. search rules)
-    get-requires
-    (λ c κs. search rules)
-    get-requires-2
-    (λ c κs. search rules)
-    get-requires-3
-    get-requires-4
-    (λ c κs. search rules)
-    (λ c κs. search rules)
-    returns
-    returns-2)
+pub returns : goal.returns
+returns c = unaccepted _ (sym c.is_file.ensures ∙ c.if-is_file.false)

@@ -1,17 +1,14 @@
 -- `grid::check::is_short` meets its contract: the rows of the table have the most entries of both depths, and each test is one of its three.
--- Assumes nothing.
 use mathlib.Core.Path.{◌≡◌, ◌∙◌, ap, sym}
 use mathlib.Core.Bool.{false}
 use Prim.Native.Nat.{ℕ, ◌+◌, ◌-◌, ◌≤◌, ◌<◌}
 use native.Mathlib.Omega.{arith}
 use lib.Dec.{leb}
-use borrow.Author.Rules.{rules}
 use borrow.Author.Tests.{le-leb, lt-leb}
 use Rattle.survey.specs.Sides.{most_entries, side_of}
 use Rattle.survey.specs.declared.sides.Side.{Side}
 use Rattle.grid.specs.Test.{is_short}
-use Rattle.grid.proofs.check.is_short.Statement.{statement}
-use Rattle.grid.proofs.check.is_short.Tie as tie
+use Rattle.grid.proofs.check.is_short.Goals as goal
 
 module _ (depth split max min : ℕ) (d : 0 < depth) (row less : Side) (m : row ≡ side_of depth) (l : less ≡ side_of (depth - 1)) where
   below : most_entries (depth - 1) ≡ less.entries
@@ -32,30 +29,20 @@ module _ (depth split max min : ℕ) (d : 0 < depth) (row less : Side) (m : row 
   unfolding is_short
   short g h = rw (below, own, le-leb split less.entries g, le-leb max row.entries h)
 
-returns : tie.Need-returns
+pub returns-then-less-split : goal.returns-then-less-split
+returns-then-less-split c =
+    let a = c.args in
+    long_split a.depth a.split a.max a.min c.requires.0 c.of_depth-row.result c.of_depth-less.result c.of_depth-row.ensures
+    c.of_depth-less.ensures c.if-less-split.true
+
+pub returns-then-row-max : goal.returns-then-row-max
+returns-then-row-max c =
+    let a = c.args in
+    long_max a.depth a.split a.max a.min c.requires.0 c.of_depth-row.result c.of_depth-less.result c.of_depth-row.ensures
+    c.of_depth-less.ensures c.if-less-split.false c.if-row-max.true
+
+pub returns : goal.returns
 returns c =
-    let w = c.before.before in
-    let s = w.before.before in
-    let a = s.args in
-    long_split a.depth a.split a.max a.min s.requires.0 w.before.of-depth.result w.of-depth2.result w.before.of-depth.ensures
-    w.of-depth2.ensures c.if1.true
-
-returns-2 : tie.Need-returns-2
-returns-2 c =
-    let w = c.before.before.before.before in
-    let s = w.before.before in
-    let a = s.args in
-    long_max a.depth a.split a.max a.min s.requires.0 w.before.of-depth.result w.of-depth2.result w.before.of-depth.ensures
-    w.of-depth2.ensures c.before.before.if1.false c.if2.true
-
-returns-3 : tie.Need-returns-3
-returns-3 c =
-    let w = c.before.before.before.before.before in
-    let s = w.before.before in
-    let a = s.args in
-    short a.depth a.split a.max a.min s.requires.0 w.before.of-depth.result w.of-depth2.result w.before.of-depth.ensures
-    w.of-depth2.ensures c.before.before.before.if1.false c.before.if2.false
-
-pub is_short_spec : {M : Type 1} → statement M
-is_short_spec =
-    tie.close (tie.spec (λ c κs. search rules) (λ c. search rules) (λ c κs. search rules) returns returns-2 returns-3)
+    let a = c.args in
+    short a.depth a.split a.max a.min c.requires.0 c.of_depth-row.result c.of_depth-less.result c.of_depth-row.ensures
+    c.of_depth-less.ensures c.if-less-split.false c.if-row-max.false

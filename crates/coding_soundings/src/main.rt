@@ -1,20 +1,17 @@
 // Runs the coding over the soundings of the paper and over damaged lists, and prints every answer and every buffer.
 #![tactic(auto)]
 
-use libc::STDOUT_FILENO;
+use std::io;
 
-fn say(n: u64) {
-    io::print_decimal(STDOUT_FILENO, n);
-    io::write_all(STDOUT_FILENO, b" ");
+fn say(rt: &impl Print, n: u64) -> io::Result<()> {
+    print!(rt; "{n} ")
 }
 
-fn say_all(bytes: &[u8; 64]) {
-    let mut i = 0;
-    while i < 64 {
-        say(wide(bytes[i]));
-        i += 1;
+fn say_all(rt: &impl Print, bytes: &[u8; 64]) -> io::Result<()> {
+    for byte in bytes {
+        say(rt, wide(*byte))?;
     }
-    io::write_all(STDOUT_FILENO, b"\n");
+    print!(rt; "\n")
 }
 
 fn wide(x: u8) -> u64 {
@@ -22,128 +19,120 @@ fn wide(x: u8) -> u64 {
 }
 
 // Packs numbers into a buffer of 7s that is lent up to `room`, and prints the answer and the whole buffer.
-fn pack(numbers: &[u32], room: usize) {
+fn pack(rt: &impl Print, numbers: &[u32], room: usize) -> io::Result<()> {
     let mut buffer = [7u8; 64];
     if 64 < room {
-        return;
+        return Ok(());
     }
     let r = coding::pack(numbers, &mut buffer[..room]);
-    say(r.refusal as u64);
-    say(r.amount as u64);
-    say_all(&buffer);
+    say(rt, r.refusal as u64)?;
+    say(rt, r.amount as u64)?;
+    say_all(rt, &buffer)
 }
 
 // Packs each number alone.
-fn singles(numbers: &[u32]) {
-    let mut i = 0;
-    while i < numbers.len() {
-        let one = [numbers[i]];
-        pack(&one, 64);
-        i += 1;
+fn singles(rt: &impl Print, numbers: &[u32]) -> io::Result<()> {
+    for number in numbers {
+        let one = [*number];
+        pack(rt, &one, 64)?;
     }
+    Ok(())
 }
 
 // Prints what entries 0 to 7 are, and one far beyond.
-fn look_up(list: &[u8]) {
-    let mut i = 0;
-    while i < 8 {
+fn look_up(rt: &impl Print, list: &[u8]) -> io::Result<()> {
+    for i in 0..8 {
         let r = coding::look_up(list, i);
-        say(r.refusal as u64);
-        say(r.number as u64);
-        i += 1;
+        say(rt, r.refusal as u64)?;
+        say(rt, r.number as u64)?;
     }
     let far = coding::look_up(list, 4294967296);
-    say(far.refusal as u64);
-    say(far.number as u64);
-    io::write_all(STDOUT_FILENO, b"\n");
+    say(rt, far.refusal as u64)?;
+    say(rt, far.number as u64)?;
+    print!(rt; "\n")
 }
 
 // Prints the ones before places 0 to 17, and before one far beyond.
-fn count_ones(section: &[u8]) {
-    let mut z = 0;
-    while z < 18 {
+fn count_ones(rt: &impl Print, section: &[u8]) -> io::Result<()> {
+    for z in 0..18 {
         let r = coding::count_ones(section, z);
-        say(r.refusal as u64);
-        say(r.amount as u64);
-        z += 1;
+        say(rt, r.refusal as u64)?;
+        say(rt, r.amount as u64)?;
     }
     let far = coding::count_ones(section, 18446744073709551615);
-    say(far.refusal as u64);
-    say(far.amount as u64);
-    io::write_all(STDOUT_FILENO, b"\n");
+    say(rt, far.refusal as u64)?;
+    say(rt, far.amount as u64)?;
+    print!(rt; "\n")
 }
 
 // A list, cut short at every place.
-fn cut(list: &[u8]) {
-    let mut n = 0;
-    while n < list.len() {
-        look_up(&list[..n]);
-        n += 1;
+fn cut(rt: &impl Print, list: &[u8]) -> io::Result<()> {
+    for n in 0..list.len() {
+        look_up(rt, &list[..n])?;
     }
+    Ok(())
 }
 
 // A list with the byte at i made b, and then as it was.
-fn change(list: &mut [u8], i: usize, b: u8) {
+fn change(rt: &impl Print, list: &mut [u8], i: usize, b: u8) -> io::Result<()> {
     if i < list.len() {
         let old = list[i];
         list[i] = b;
-        look_up(list);
+        look_up(rt, list)?;
         list[i] = old;
     }
+    Ok(())
 }
 
 // A list with each byte changed in three ways.
-fn changed(list: &mut [u8]) {
-    let mut i = 0;
-    while i < list.len() {
-        change(list, i, 0);
-        change(list, i, 1);
-        change(list, i, 255);
-        i += 1;
+fn changed(rt: &impl Print, list: &mut [u8]) -> io::Result<()> {
+    for i in 0..list.len() {
+        change(rt, list, i, 0)?;
+        change(rt, list, i, 1)?;
+        change(rt, list, i, 255)?;
     }
+    Ok(())
 }
 
 // A list of n bytes with bytes behind it, alone, cut short and changed.
-fn damaged(list: &mut [u8], n: usize) {
+fn damaged(rt: &impl Print, list: &mut [u8], n: usize) -> io::Result<()> {
     if list.len() < n {
-        return;
+        return Ok(());
     }
-    look_up(list);
-    look_up(&list[..n]);
-    cut(&list[..n]);
-    changed(&mut list[..n]);
+    look_up(rt, list)?;
+    look_up(rt, &list[..n])?;
+    cut(rt, &list[..n])?;
+    changed(rt, &mut list[..n])
 }
 
 // Sections of bits of every count from 0 to 17 over two bytes and a third, and cut short.
-fn sections() {
-    let mut n = 0u8;
-    while n < 18 {
+fn sections(rt: &impl Print) -> io::Result<()> {
+    for n in 0u8..18 {
         let s = [n, 0, 0, 0, 181, 3, 0];
-        count_ones(&s[..4]);
-        count_ones(&s[..5]);
-        count_ones(&s[..6]);
-        count_ones(&s);
-        n += 1;
+        count_ones(rt, &s[..4])?;
+        count_ones(rt, &s[..5])?;
+        count_ones(rt, &s[..6])?;
+        count_ones(rt, &s)?;
     }
     let large = [255u8, 255, 255, 255, 181, 3, 0];
-    count_ones(&large);
-    count_ones(&large[..3]);
+    count_ones(rt, &large)?;
+    count_ones(rt, &large[..3])
 }
 
-fn main() {
+fn main(rt: HostRuntime) -> io::Result<()> {
     let values = [0u32, 255, 256, 65535, 65536, 16777215, 16777216, 4294967295];
-    singles(&values);
+    singles(&rt, &values)?;
     let few = [0u32, 255, 256, 65535, 65536, 16777215];
-    pack(&few[..0], 64);
-    pack(&few[..0], 20);
-    pack(&few[..0], 19);
-    pack(&few, 64);
-    pack(&few, 34);
-    pack(&few, 33);
-    pack(&few, 0);
-    pack(&values, 64);
+    pack(&rt, &few[..0], 64)?;
+    pack(&rt, &few[..0], 20)?;
+    pack(&rt, &few[..0], 19)?;
+    pack(&rt, &few, 64)?;
+    pack(&rt, &few, 34)?;
+    pack(&rt, &few, 33)?;
+    pack(&rt, &few, 0)?;
+    pack(&rt, &values, 64)?;
     let mut buffer = [9u8; 64];
     coding::pack(&few, &mut buffer);
-    damaged(&mut buffer, 34);
-    sections();
+    damaged(&rt, &mut buffer, 34)?;
+    sections(&rt)
 }

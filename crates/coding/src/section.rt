@@ -103,7 +103,7 @@ pub fn ones(f: &[u8], p: Bits) -> usize
 // The ones before a place that has a bit 1.
 pub fn ones_before(f: &[u8], x: &[u32], p: Bits, z: usize) -> usize
     requires in_bits { InBits f.now x.now p }
-    requires false_value { get_or (bits_in f.now p) z false ≡ true }
+    requires bit_is_one { get_or (bits_in f.now p) z false ≡ true }
     ensures { (result ≡ ones_before (bits_in f.now p) z) × (result < 2 ^ 32) }
 {
     let at = p.at;

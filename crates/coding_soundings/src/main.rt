@@ -78,8 +78,9 @@ fn change(rt: &impl Print, list: &mut [u8], i: usize, b: u8) -> io::Result<()> {
     if i < list.len() {
         let old = list[i];
         list[i] = b;
-        look_up(rt, list)?;
+        let said = look_up(rt, list);
         list[i] = old;
+        return said;
     }
     Ok(())
 }

@@ -189,7 +189,7 @@ fn is_sized(f: &[u8], x: &[u32], at: &[usize; 36], depth: usize) -> bool
 // Whether the four quarters of the whole square fit, and make its greatest and least.
 fn is_whole(f: &[u8], x: &[u32], at: &[usize; 36], depth: usize, top: u32, low: u32) -> bool
     requires in_grid { InGrid f.now x.now at.now × (0 < depth) × (depth ≤ depth_limit) }
-    requires depth_value { (depth ≡ depth_for (rows_in f.now) (columns_in f.now)) × (top ≡ greatest_in f.now) × (low ≡ least_in f.now) × (top ≡ low → ⊥) }
+    requires uneven_heading { (depth ≡ depth_for (rows_in f.now) (columns_in f.now)) × (top ≡ greatest_in f.now) × (low ≡ least_in f.now) × (top ≡ low → ⊥) }
     ensures { Wholly (survey_in f.now) (lists_in f.now) (depth - 1) top low result }
 {
     if !is_sized(f, x, at, depth) {
@@ -261,7 +261,7 @@ fn make_counts(f: &[u8], x: &mut [u32], split: Bits, max: Coded, min: Coded)
 // Whether a file with these sections, of a survey that is not even, is the stored form of one.
 pub fn is_sound(f: &[u8], a: usize, b: usize, top: u32, low: u32) -> bool
     requires parted { Parted f.now a b }
-    requires top_value { (top ≡ greatest_in f.now) × (low ≡ least_in f.now) × (top ≡ low → ⊥) }
+    requires uneven_heading { (top ≡ greatest_in f.now) × (low ≡ least_in f.now) × (top ≡ low → ⊥) }
     ensures { result ≡ is_file f.now }
 {
     let rows = word::get(f, 4) as usize;

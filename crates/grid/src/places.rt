@@ -130,8 +130,8 @@ pub fn with_counts(p: Bits, from: usize) -> Bits
 
 // Makes the running counts of bits where they are to stand.
 pub fn make_counts(f: &[u8], x: &mut [u32], p: Bits)
-    requires at_in_bounds { (p.at ≤ length f.now) × (p.n ≤ 8 * length (drop p.at f.now)) × (p.n < 2 ^ 32) }
-    requires to_value { (p.to ≡ p.from + (p.n + 511) / 512) × (p.to ≤ length x.old) }
+    requires bits_inside { (p.at ≤ length f.now) × (p.n ≤ 8 * length (drop p.at f.now)) × (p.n < 2 ^ 32) }
+    requires counts_inside { (p.to ≡ p.from + (p.n + 511) / 512) × (p.to ≤ length x.old) }
     ensures { Indexed f.now x.old x.new p }
 {
     let start = p.at;

@@ -49,5 +49,5 @@ returns-then-top-low c = found_even (parted (goal.at.returns-then-top-low c).Els
 pub is_sound-requires : goal.is_sound-requires
 is_sound-requires c = record {
   parted = parted (goal.at.is_sound-requires c).Else-c-f;
-  top_value = (c.turn-top.ensures ∙ ap turned c.get.ensures, c.turn-low.ensures ∙ ap turned c.get-2.ensures, c.if-top-low.false);
+  uneven_heading = (c.turn-top.ensures ∙ ap turned c.get.ensures, c.turn-low.ensures ∙ ap turned c.get-2.ensures, c.if-top-low.false);
 }

@@ -7,7 +7,7 @@ use Rattle.coding.proofs.Laws.Lists.{long_sum, short_sum}
 use Rattle.coding.proofs.list.entry.Goals as goal
 
 pub ones_before-j-requires : goal.ones_before-j-requires
-ones_before-j-requires c = record { in_bits = c.requires.more; false_value = sym c.bit.ensures ∙ c.if-bit.true }
+ones_before-j-requires c = record { in_bits = c.requires.more; bit_is_one = sym c.bit.ensures ∙ c.if-bit.true }
 
 pub returns-then-bit : goal.returns-then-bit
 returns-then-bit c =

@@ -7,7 +7,7 @@ use Rattle.coding.proofs.Laws.Lists.{long_sum, short_sum}
 use Rattle.coding.proofs.list.second.Goals as goal
 
 pub ones_before-k-requires : goal.ones_before-k-requires
-ones_before-k-requires c = record { in_bits = c.requires.again; false_value = sym c.bit.ensures ∙ c.if-bit.true }
+ones_before-k-requires c = record { in_bits = c.requires.again; bit_is_one = sym c.bit.ensures ∙ c.if-bit.true }
 
 pub returns-then-bit : goal.returns-then-bit
 returns-then-bit c =

@@ -14,7 +14,7 @@ ones_before-requires c =
     let a = c.args in
     record {
       index = index_part a.f.now a.p.at c.requires.in_bits.right;
-      z_lt_n = set_in a.p.n (all_bits (drop a.p.at a.f.now)) a.z c.requires.false_value;
+      z_lt_n = set_in a.p.n (all_bits (drop a.p.at a.f.now)) a.z c.requires.bit_is_one;
     }
 
 pub returns : goal.returns
@@ -27,6 +27,6 @@ returns c =
         arith,
         before_le (bits_in a.f.now a.p) a.z,
         c.requires.in_bits.right.small,
-        set_in a.p.n (all_bits (drop a.p.at a.f.now)) a.z c.requires.false_value,
+        set_in a.p.n (all_bits (drop a.p.at a.f.now)) a.z c.requires.bit_is_one,
       ),
     )

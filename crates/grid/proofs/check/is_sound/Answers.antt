@@ -14,7 +14,7 @@ use Rattle.grid.proofs.check.is_sound.Goals.{After-depth_for-depth, Else-depth-e
 -- what the heading says
 uneven : (c : After-depth_for-depth) → let a = c.args in Uneven a.f.now c.depth_for-depth.result a.top a.low
 uneven c =
-    let p = c.requires.top_value in
+    let p = c.requires.uneven_heading in
     record {
       side = c.depth_for-depth.ensures ∙ ap₂ depth_for c.get-rows.ensures c.get-columns.ensures;
       greatest = p.0;
@@ -77,7 +77,7 @@ is_whole-requires c =
         d.0,
         d.1,
       );
-      depth_value = (u.side, u.greatest, u.least, u.apart);
+      uneven_heading = (u.side, u.greatest, u.least, u.apart);
     }
 
 pub returns : goal.returns

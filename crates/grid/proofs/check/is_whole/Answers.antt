@@ -16,7 +16,7 @@ says : (s : Start) (i : ℕ) → i < 4 → Says (survey_in s.args.f.now) (lists_
 says s i b =
     let a = s.args in
     let f = a.f.now in
-    let p = s.requires.depth_value in
+    let p = s.requires.uneven_heading in
     let d : depth_for (rows_in s.args.f.now) (columns_in s.args.f.now) ≡ suc (s.args.depth - 1) = omega (arith, p.0, s.requires.in_grid.1) in
     subst (λ (g : ℕ). Says (survey_in f) (lists_in f) (a.depth - 1) i g (i / 2) (i % 2)) (sym p.1)
     (says-whole f (a.depth - 1) d (λ e. p.3 (p.1 ∙ e ∙ sym p.2)) i b)

@@ -15,8 +15,8 @@ make_index-requires c =
     let p = c.args.p in
     let h = c.requires in
     record {
-      n_bound = (omega (arith, h.at_in_bounds.1, ap length (rest_part c.args.f.now p.at)), h.at_in_bounds.2);
-      index_len = omega (arith, h.to_value.0, mid_len p.from p.to c.args.x.now h.to_value.1);
+      n_bound = (omega (arith, h.bits_inside.1, ap length (rest_part c.args.f.now p.at)), h.bits_inside.2);
+      index_len = omega (arith, h.counts_inside.0, mid_len p.from p.to c.args.x.now h.counts_inside.1);
     }
 
 pub returns : goal.returns
@@ -24,5 +24,5 @@ returns c =
     let m = c.make_index in
     let p = c.args.p in
     let h = c.requires in
-    indexed h.at_in_bounds.0 (omega (arith, h.to_value.0)) h.to_value.1 (m.auto.index ∙ mid_len p.from p.to c.args.x.now h.to_value.1)
+    indexed h.bits_inside.0 (omega (arith, h.counts_inside.0)) h.counts_inside.1 (m.auto.index ∙ mid_len p.from p.to c.args.x.now h.counts_inside.1)
     (subst (λ (l : List ℕ). Index l p.n m.new.index) (rest_part c.args.f.now p.at) m.ensures)

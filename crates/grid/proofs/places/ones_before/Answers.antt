@@ -12,7 +12,7 @@ ones_before-requires c =
     let p = c.bits_at-p.ensures in
     record {
       in_bits = split_in c.requires.0 p;
-      false_value = ap (λ (l : List Bool). get_or l c.args.z false) (split_is c.requires.0 p) ∙ c.requires.1;
+      bit_is_one = ap (λ (l : List Bool). get_or l c.args.z false) (split_is c.requires.0 p) ∙ c.requires.1;
     }
 
 pub returns : goal.returns

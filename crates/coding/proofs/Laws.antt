@@ -11,3 +11,4 @@ pub mod Items
 pub mod Lay
 pub mod Written
 pub mod Calls
+pub mod Answers

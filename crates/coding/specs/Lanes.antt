@@ -3,10 +3,12 @@
 -- Assumes nothing.
 use Rattle.std.specs.Prelude.{◌≡◌, Bool, true, false, List, [], ◌∷◌, ◌++◌, map, ℕ, zero, suc, ◌+◌, ◌≤◌, ◌<◌, ◌/◌, ◌%◌, ◌^◌, eqb, leb, length, get_or, take, drop}
 use Rattle.std.proofs.lemmas.List.Edits.{sets}
+use Rattle.std.proofs.Common.{lit<}
 use Rattle.coding.specs.Bits.{bit, all_bits}
 use Rattle.coding.specs.Lists.{number_limit}
 use Rattle.coding.specs.Sections.{byte_section, bit_section, packed}
-use Rattle.coding.specs.declared.lanes.Part.{Part}
+use Rattle.coding.specs.declared.lanes.part.Part.{Part}
+use Rattle.coding.specs.declared.lanes.Lanes.{Lanes}
 
 -- the elements that bytes hold: their bits, or themselves
 abbrev pub view_of : Bool → List ℕ → List ℕ
@@ -32,22 +34,22 @@ items_of p (v ∷ l) = item_of p v ++ items_of p l
 
 -- the five parts of a list, and split marks written as 0 and 1
 abbrev pub first_part : Part
-first_part = record { bits = false; from = 0; by = 1 }
+first_part = record { bits = false; from = 0; by = 1; by_positive = lit< tt }
 
 abbrev pub more_part : Part
-more_part = record { bits = true; from = 0; by = 256 }
+more_part = record { bits = true; from = 0; by = 256; by_positive = lit< tt }
 
 abbrev pub second_part : Part
-second_part = record { bits = false; from = 256; by = 256 }
+second_part = record { bits = false; from = 256; by = 256; by_positive = lit< tt }
 
 abbrev pub again_part : Part
-again_part = record { bits = true; from = 256; by = 65536 }
+again_part = record { bits = true; from = 256; by = 65536; by_positive = lit< tt }
 
 abbrev pub third_part : Part
-third_part = record { bits = false; from = 65536; by = 65536 }
+third_part = record { bits = false; from = 65536; by = 65536; by_positive = lit< tt }
 
 abbrev pub mark_part : Part
-mark_part = record { bits = true; from = 0; by = 1 }
+mark_part = record { bits = true; from = 0; by = 1; by_positive = lit< tt }
 
 -- bytes that hold a section of these elements, after its count
 abbrev pub Written : Bool → List ℕ → List ℕ → Type 0
@@ -104,6 +106,17 @@ pub record Put (st cur out cur' out' : List ℕ) (E : ℕ → List ℕ) : Type 0
   pub counts : (e : ℕ) → e < length cur → get_or cur' e 0 ≡ get_or cur e 0 + length (E e)
   pub lanes : (e : ℕ) → e < length cur → lane_of st cur' out' e ≡ lane_of st cur out e ++ E e
   pub rest : drop (get_or st (length cur) 0) out' ≡ drop (get_or st (length cur) 0) out
+
+-- lanes of bytes or of bits have room for a load
+abbrev pub HasRoom : Bool → Lanes → (ℕ → List ℕ) → Type 0
+HasRoom bits l E = Room l.starts.now l.cur.now (view_of bits l.out.now) E
+
+-- lanes of bytes or of bits were put a load, and are the same lanes: they start where they did, in the same buffers
+pub record Puts (bits : Bool) (old new : Lanes) (E : ℕ → List ℕ) : Type 0 where
+  pub starts : new.starts ≡ old.starts
+  pub cur : new.cur.ghost_name ≡ old.cur.ghost_name
+  pub out : new.out.ghost_name ≡ old.out.ghost_name
+  pub load : Put old.starts.now old.cur.now (view_of bits old.out.now) new.cur.now (view_of bits new.out.now) E
 
 -- a load was counted, and what is asked for that
 pub record Countable (cur : List ℕ) (E : ℕ → List ℕ) : Type 0 where

@@ -3,6 +3,7 @@ pub mod Bytes
 pub mod Bits
 pub mod Lists
 pub mod Sections
+pub mod Answers
 pub mod Calls
 pub mod Places
 pub mod Lanes

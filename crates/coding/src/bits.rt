@@ -1,11 +1,140 @@
 // Bits in bytes, the ones among them, and running counts of ones.
-ghost use Rattle.std.specs.Prelude.{◌≡◌, true, false, ◌+◌, ◌-◌, ◌*◌, ◌/◌, ◌%◌, ◌^◌, ◌≤◌, ◌<◌, eqb, length, get_or, take};
+ghost use Rattle.std.specs.Prelude.{◌≡◌, true, false, ◌+◌, ◌*◌, ◌/◌, ◌%◌, ◌^◌, ◌≤◌, ◌<◌, eqb, length, get_or, take};
 ghost use Rattle.std.specs.Int.Count as Count;
-ghost use Rattle.coding.specs.Bits.{pack_bits, ones_before};
+ghost use Rattle.coding.specs.Bits.{pack_bits, ones, ones_before};
 ghost use Rattle.coding.specs.Sections.{same};
 ghost use Rattle.coding.specs.Places.{bits_of, ones_in, Index};
 
-// The digit of weight 2 to the power k in a byte.
+use std::marker::Model;
+
+// The first `count` bits of some bytes, seen as the list of them. `index` has the ones before each block of 512 bits; it may end early, or have none.
+#[derive(Drop)]
+pub struct Bits<'a> {
+    pub bytes: &'a [u8],
+    pub count: usize,
+    pub index: &'a [u32],
+}
+
+impl<'a> Model for Bits<'a> {
+    ghost use Rattle.std.specs.Prelude.{List, Bool};
+    ghost use Rattle.coding.specs.Places.{bits_of, Index};
+
+    ghost Value = { List Bool };
+
+    ghost view = { λ b. bits_of b.bytes.now b.count };
+
+    ghost invariant = { λ b. Index b.bytes.now b.count b.index.now };
+}
+
+impl<'a> Bits<'a> {
+    // The first bits of some bytes, without running counts.
+    pub fn new(bytes: &'a [u8], count: usize) -> Bits<'a>
+        requires { (count ≤ 8 * length bytes.now) × (count < 2 ^ 32) }
+        ensures { result ≡ bits_of bytes.now count }
+    {
+        Bits {
+            bytes,
+            count,
+            index: &[],
+        }
+    }
+
+    // The same bits, with running counts made in `index` as far as it reaches.
+    pub fn indexed(self, index: &'a mut [u32]) -> Bits<'a>
+        ensures { result ≡ self.entry }
+    {
+        let blocks = self.blocks().min(index.len());
+        let Bits { bytes, count, .. } = self;
+        let index = &mut index[..blocks];
+        make_index(bytes, count, index);
+        Bits {
+            bytes,
+            count,
+            index,
+        }
+    }
+
+    // How many running counts there are, one for each block of 512 bits.
+    pub(crate) fn blocks(&self) -> usize
+        ensures { (result ≡ (length self.now + 511) / 512) × (result < 2 ^ 32) }
+    {
+        (self.count + 511) / 512
+    }
+
+    pub fn len(&self) -> usize
+        ensures { (result ≡ length self.now) × (result < 2 ^ 32) }
+    {
+        self.count
+    }
+
+    // The bit i; beyond them, no.
+    pub fn get(&self, i: usize) -> bool
+        ensures { result ≡ get_or self.now i false }
+    {
+        get(self.bytes, self.count, i)
+    }
+
+    // All ones.
+    pub fn ones(&self) -> usize
+        ensures { result ≡ ones self.now }
+    {
+        self.ones_before(self.count)
+    }
+
+    // The ones before place z; beyond the last bit, all of them.
+    pub fn ones_before(&self, z: usize) -> usize
+        ensures { (result ≡ ones_before self.now z) × (result < 2 ^ 32) }
+    {
+        if z < self.count {
+            return self.ones_inside(z);
+        }
+        if self.count == 0 {
+            return 0;
+        }
+        let last = self.count - 1;
+        self.ones_inside(last) + self.get(last) as usize
+    }
+
+    // The ones before the place of a bit, from those before its block; those that the index lacks are counted from the start.
+    fn ones_inside(&self, z: usize) -> usize
+        requires { z < length self.now }
+        ensures { result ≡ ones_before self.now z }
+    {
+        let block = z / 512;
+        let q = z / 8;
+        let last = ones_below(self.bytes[q], z % 8);
+        match self.index.get(block) {
+            Some(sum) => *sum as usize + ones_in(&self.bytes[64 * block..q]) + last,
+            None => ones_in(&self.bytes[..q]) + last,
+        }
+    }
+}
+
+// Makes the running counts of the first bits, as many as `index` has room for.
+fn make_index(s: &[u8], n: usize, index: &mut [u32])
+    requires n_bound { (n ≤ 8 * length s.now) × (n < 2 ^ 32) }
+    requires index_len { 512 * length index.old < n + 512 }
+    ensures { Index s.now n index.new }
+{
+    let mut sum = 0;
+    // By its place, since a proof knows nothing of the elements behind `iter_mut`.
+    for b in 0..index.len() {
+        index[b] = sum as u32;
+        let from = 64 * b;
+        let to = (from + 64).min(s.len());
+        sum += ones_in(&s[from..to]);
+    }
+}
+
+// The bit i of the first n; beyond them, no.
+pub fn get(s: &[u8], n: usize, i: usize) -> bool
+    requires { n ≤ 8 * length s.now }
+    ensures { result ≡ get_or (bits_of s.now n) i false }
+{
+    i < n && digit(s[i / 8], i % 8)
+}
+
+// The digit of weight 2 to the power k in a byte. Each caller's k is a remainder by 8, which a type for it would only wrap and unwrap.
 pub fn digit(x: u8, k: usize) -> bool
     requires { k < 8 }
     ensures { result ≡ eqb (x / 2 ^ k % 2) 1 }
@@ -18,111 +147,30 @@ fn ones_below(x: u8, k: usize) -> usize
     requires { k < 8 }
     ensures { (result ≡ Count.ones (x % 2 ^ k)) × (result ≤ 8) }
 {
-    u8::count_ones(x & ((1 << k) - 1)) as usize
+    (x & ((1 << k) - 1)).count_ones() as usize
 }
 
-// The ones in a byte.
-fn ones_of(x: u8) -> usize
-    ensures { (result ≡ Count.ones (x % 256)) × (result ≤ 8) }
+// The ones in some bytes, taken eight at a time.
+fn ones_in(s: &[u8]) -> usize
+    requires { length s.now < 2 ^ 32 }
+    ensures { (result ≡ ones_in s.now (length s.now)) × (result ≤ 8 * length s.now) }
 {
-    u8::count_ones(x) as usize
-}
-
-// The bit i of the first n; beyond them, no.
-pub fn get(s: &[u8], n: usize, i: usize) -> bool
-    requires { n ≤ 8 * length s.now }
-    ensures { result ≡ get_or (bits_of s.now n) i false }
-{
-    if n <= i {
-        return false;
+    let words = s.len() / 8;
+    let mut sum = 0;
+    for i in 0..words {
+        sum += ones_of_eight(&s[8 * i..8 * i + 8]);
     }
-    let at = i / 8;
-    digit(s[at], i % 8)
-}
-
-// The ones in the eight bytes from i on.
-fn ones_of_eight(s: &[u8], i: usize) -> usize
-    requires { i + 8 ≤ length s.now }
-    ensures { (ones_in s.now (i + 8) ≡ ones_in s.now i + result) × (result ≤ 64) }
-{
-    let mut w: u64 = 0;
-    let mut k = 8;
-    while 0 < k {
-        k -= 1;
-        w = w * 256 + s[i + k] as u64;
-    }
-    u64::count_ones(w) as usize
-}
-
-// The ones in the bytes from i to e.
-fn ones_between(s: &[u8], i: usize, e: usize) -> usize
-    requires { (i ≤ e) × (e ≤ length s.now) × (e < 2 ^ 32) }
-    ensures { (ones_in s.now e ≡ ones_in s.now i + result) × (result ≤ 8 * (e - i)) }
-{
-    let mut sum: usize = 0;
-    let mut at = i;
-    while at + 8 <= e {
-        sum += ones_of_eight(s, at);
-        at += 8;
-    }
-    while at < e {
-        sum += ones_of(s[at]);
-        at += 1;
+    for x in &s[8 * words..] {
+        sum += x.count_ones() as usize;
     }
     sum
 }
 
-// The ones before place z, from those before byte i.
-fn ones_from(s: &[u8], n: usize, i: usize, sum: usize, z: usize) -> usize
-    requires n_bound { (n ≤ 8 * length s.now) × (n < 2 ^ 32) }
-    requires z_lt_n { (z < n) × (i ≤ z / 8) × (sum ≡ ones_in s.now i) }
-    ensures { result ≡ ones_before (bits_of s.now n) z }
+fn ones_of_eight(s: &[u8]) -> usize
+    requires { length s.now ≡ 8 }
+    ensures { (result ≡ ones_in s.now 8) × (result ≤ 64) }
 {
-    let q = z / 8;
-    let mid = ones_between(s, i, q);
-    let last = ones_below(s[q], z % 8);
-    sum + mid + last
-}
-
-// The ones before place z of the first n bits. Counts that the index lacks are made from the start.
-pub fn ones_before(s: &[u8], n: usize, index: &[u32], z: usize) -> usize
-    requires index { Index s.now n index.now }
-    requires z_lt_n { z < n }
-    ensures { result ≡ ones_before (bits_of s.now n) z }
-{
-    let b = z / 512;
-    if b < index.len() {
-        ones_from(s, n, 64 * b, index[b] as usize, z)
-    } else {
-        ones_from(s, n, 0, 0, z)
-    }
-}
-
-// The ones before place z of the first n bits, from the start; beyond the last bit, all of them.
-pub fn ones_to(s: &[u8], n: usize, z: usize) -> usize
-    requires { (n ≤ 8 * length s.now) × (n < 2 ^ 32) }
-    ensures { result ≡ ones_before (bits_of s.now n) z }
-{
-    if z < n {
-        return ones_from(s, n, 0, 0, z);
-    }
-    if n == 0 {
-        return 0;
-    }
-    let last = n - 1;
-    let sum = ones_from(s, n, 0, 0, last);
-    if get(s, n, last) {
-        return sum + 1;
-    }
-    sum
-}
-
-// Whether a byte has no ones from the digit of weight 2 to the power k on.
-fn clear_from(x: u8, k: usize) -> bool
-    requires { k < 8 }
-    ensures { result ≡ eqb (x / 2 ^ k) 0 }
-{
-    x >> k == 0
+    u64::from_le_bytes([s[0], s[1], s[2], s[3], s[4], s[5], s[6], s[7]]).count_ones() as usize
 }
 
 // Whether the unused bits of the bytes that hold n bits are 0.
@@ -131,29 +179,5 @@ pub fn clear_behind(s: &[u8], n: usize) -> bool
     ensures { result ≡ same (pack_bits (bits_of s.now n)) (take ((n + 7) / 8) s.now) }
 {
     let k = n % 8;
-    if k == 0 {
-        return true;
-    }
-    let at = n / 8;
-    clear_from(s[at], k)
-}
-
-// Makes the running counts of the first n bits.
-pub fn make_index(s: &[u8], n: usize, index: &mut [u32])
-    requires n_bound { (n ≤ 8 * length s.now) × (n < 2 ^ 32) }
-    requires index_len { length index.old ≡ (n + 511) / 512 }
-    ensures { Index s.now n index.new }
-{
-    let e = (n + 7) / 8;
-    let mut sum: usize = 0;
-    let mut b = 0;
-    while b < index.len() {
-        index[b] = sum as u32;
-        let from = 64 * b;
-        let to = from + 64;
-        if to <= e {
-            sum += ones_between(s, from, to);
-        }
-        b += 1;
-    }
+    k == 0 || s[n / 8] >> k == 0
 }

@@ -1,84 +1,84 @@
 // Sections written one entry at a time, in lanes side by side: lane d starts at starts[d], and cur[d] elements of it are written.
-ghost use Rattle.std.specs.Prelude.{◌≡◌, true, [], ◌∷◌, ◌+◌, ◌^◌, ◌<◌, length, set};
+ghost use Rattle.std.specs.Prelude.{◌≡◌, true, false, [], ◌∷◌, ◌+◌, ◌^◌, ◌<◌, length, set, slice_index};
 ghost use Rattle.coding.specs.Bits.{bit, digits};
-ghost use Rattle.coding.specs.Lanes.{view_of, item_of, only, Room, Put, total, Started};
+ghost use Rattle.coding.specs.Lanes.{item_of, only, HasRoom, Puts, total, Started};
+
+mod part;
 
 use crate::bits;
+pub use part::Part;
 
-// A part of a list: of the numbers that are at least `from`, the byte of weight `by`, or whether they are at least `by`.
-#[repr(C)]
-#[derive(Clone, Copy)]
-pub struct Part {
-    pub bits: bool,
-    pub from: u32,
-    pub by: u32,
-}
-
-fn weight(k: usize) -> u8
-    requires { k < 8 }
-    ensures { result ≡ 2 ^ k }
-{
-    1u8 << k
-}
-
-// The byte b with its digit k made v.
+// The byte b with its digit k made v. Tests inside a test are compiled to moves; a `match` of both at once is to jumps, which a processor guesses wrong.
 fn mend(b: u8, k: usize, v: bool) -> u8
     requires { k < 8 }
     ensures { digits 8 result ≡ set (digits 8 b) k v }
 {
-    let had = bits::digit(b, k);
-    if had {
-        if v {
-            return b;
+    if bits::digit(b, k) {
+        if v { b } else { b - (1 << k) }
+    } else if v {
+        b + (1 << k)
+    } else {
+        b
+    }
+}
+
+// Where element n of lane d stands, which is before lane d + 1 starts.
+fn place(starts: &[u32], d: usize, n: u32) -> usize
+    requires d_in_bounds { d < length starts.now }
+    requires in_lane { slice_index starts.now d + n < slice_index starts.now (d + 1) }
+    ensures { (result ≡ slice_index starts.now d + n) × (result + 1 < 2 ^ 32) }
+{
+    (starts[d] + n) as usize
+}
+
+// Lanes side by side in `out`: lane d starts at starts[d], and cur[d] elements of it are written. Two slices and no slice of pairs, since `starts` has
+// one more, for the end, and is lent for reading alone; and no slice for each lane, since bits of two lanes may share a byte.
+#[derive(Drop)]
+pub struct Lanes<'a> {
+    pub starts: &'a [u32],
+    pub cur: &'a mut [u32],
+    pub out: &'a mut [u8],
+}
+
+impl Lanes<'_> {
+    // Puts a byte to lane d.
+    fn put_byte(&mut self, d: usize, v: u8)
+        requires d_in_bounds { d < length self.old.cur.now }
+        requires room { HasRoom false self.old (only d (v ∷ [])) }
+        ensures { Puts false self.old self.new (only d (v ∷ [])) }
+    {
+        let n = self.cur[d];
+        let at = place(self.starts, d, n);
+        self.out[at] = v;
+        self.cur[d] = n + 1;
+    }
+
+    // Puts a bit to lane d.
+    fn put_bit(&mut self, d: usize, v: bool)
+        requires d_in_bounds { d < length self.old.cur.now }
+        requires room { HasRoom true self.old (only d (bit v ∷ [])) }
+        ensures { Puts true self.old self.new (only d (bit v ∷ [])) }
+    {
+        let n = self.cur[d];
+        let at = place(self.starts, d, n);
+        let q = at / 8;
+        self.out[q] = mend(self.out[q], at % 8, v);
+        self.cur[d] = n + 1;
+    }
+
+    // Puts what the part has of the number v to lane d.
+    pub fn put(&mut self, part: Part, d: usize, v: u32)
+        requires d_in_bounds { d < length self.old.cur.now }
+        requires room { HasRoom part.bits self.old (only d (item_of part v)) }
+        ensures { Puts part.bits self.old self.new (only d (item_of part v)) }
+    {
+        if v < part.from {
+            return;
         }
-        return b - weight(k);
-    }
-    if v {
-        return b + weight(k);
-    }
-    b
-}
-
-// Puts a byte to lane d.
-fn put_byte(starts: &[u32], cur: &mut [u32], out: &mut [u8], d: usize, v: u8)
-    requires d_in_bounds { d < length cur.old }
-    requires room { Room starts.now cur.old out.old (only d (v ∷ [])) }
-    ensures { Put starts.now cur.old out.old cur.new out.new (only d (v ∷ [])) }
-{
-    let n = cur[d];
-    let at = (starts[d] + n) as usize;
-    out[at] = v;
-    cur[d] = n + 1;
-}
-
-// Puts a bit to lane d.
-fn put_bit(starts: &[u32], cur: &mut [u32], out: &mut [u8], d: usize, v: bool)
-    requires d_in_bounds { d < length cur.old }
-    requires room { Room starts.now cur.old (view_of true out.old) (only d (bit v ∷ [])) }
-    ensures { Put starts.now cur.old (view_of true out.old) cur.new (view_of true out.new) (only d (bit v ∷ [])) }
-{
-    let n = cur[d];
-    let at = (starts[d] + n) as usize;
-    let q = at / 8;
-    let b = mend(out[q], at % 8, v);
-    out[q] = b;
-    cur[d] = n + 1;
-}
-
-// Puts what the part p has of the number v to lane d.
-pub fn put(p: Part, starts: &[u32], cur: &mut [u32], out: &mut [u8], d: usize, v: u32)
-    requires d_in_bounds { (d < length cur.old) × (0 < p.by) }
-    requires room { Room starts.now cur.old (view_of p.bits out.old) (only d (item_of p v)) }
-    ensures { Put starts.now cur.old (view_of p.bits out.old) cur.new (view_of p.bits out.new) (only d (item_of p v)) }
-{
-    let bits = p.bits;
-    let from = p.from;
-    let by = p.by;
-    if from <= v {
-        if bits {
-            put_bit(starts, cur, out, d, by <= v);
+        if part.bits {
+            self.put_bit(d, part.by <= v);
         } else {
-            put_byte(starts, cur, out, d, (v / by % 256) as u8);
+            self.put_byte(d, (v / part.by % 256) as u8);
         }
     }
 }
@@ -90,11 +90,9 @@ pub fn start(counts: &[u32], starts: &mut [u32])
     ensures { Started counts.now starts.new }
 {
     starts[0] = 0;
-    let mut i = 0;
-    while i < counts.len() {
-        let at = starts[i];
-        let n = counts[i];
-        starts[i + 1] = at + n;
-        i += 1;
+    let mut at = 0;
+    for (i, n) in counts.iter().enumerate() {
+        at += *n;
+        starts[i + 1] = at;
     }
 }

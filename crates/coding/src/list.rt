@@ -1,181 +1,191 @@
-// Difference lists in a longer file: the test of one, where its parts lie, and its entries.
-ghost use Rattle.std.specs.Prelude.{◌≡◌, true, false, cond, [], ◌+◌, ◌<◌, length, drop};
+// Difference lists in bytes: the five sections of one, the test whether they are a list packed, and its entries.
+ghost use Rattle.std.specs.Prelude.{◌≡◌, true, false, ◌+◌, ◌<◌, length, get_or, drop, MatchOption};
 ghost use Rattle.coding.specs.Lists.{second_of, entry_of};
-ghost use Rattle.coding.specs.Sections.{packed, list_at, starts_list};
-ghost use Rattle.coding.specs.Places.{bytes_in, bits_in, parts_in, none_zero, none_idle, agree, InBytes, InBits, InCoded, Five, PlacedAt};
+ghost use Rattle.coding.specs.Sections.{parts_at, packed, list_at, starts_list};
+ghost use Rattle.coding.specs.Places.{none_zero, none_idle, agree, Five, after_five};
 
-use crate::section::{Bits, Bytes};
-use crate::{section, word};
+use crate::bits::Bits;
+use crate::section;
+use std::marker::Model;
 
-// Where the five parts of a list lie.
-#[repr(C)]
-#[derive(Clone, Copy)]
-pub struct Coded {
-    pub first: Bytes,
-    pub more: Bits,
-    pub second: Bytes,
-    pub again: Bits,
-    pub third: Bytes,
+// The five sections of a list, seen as its parts.
+#[derive(Drop)]
+pub struct Sections<'a> {
+    pub first: &'a [u8],
+    pub more: Bits<'a>,
+    pub second: &'a [u8],
+    pub again: Bits<'a>,
+    pub third: &'a [u8],
+}
+
+impl<'a> Model for Sections<'a> {
+    ghost use Rattle.coding.specs.Lists.{Parts};
+
+    ghost Value = { Parts };
+
+    ghost view = { λ s. record { first = s.first.now; more = s.more; second = s.second.now; again = s.again; third = s.third.now } };
+}
+
+impl<'a> Sections<'a> {
+    // The five sections that `s` starts with, and what is behind them.
+    pub fn read(s: &'a [u8]) -> Option<(Sections<'a>, &'a [u8])>
+        ensures { MatchOption result (Five s.now → ⊥) (λ p. Five s.now × (p.0 ≡ parts_at s.now) × (p.1.now ≡ after_five s.now)) }
+    {
+        let (first, rest) = section::bytes(s)?;
+        let (more, rest) = section::bits(rest)?;
+        let (second, rest) = section::bytes(rest)?;
+        let (again, rest) = section::bits(rest)?;
+        let (third, rest) = section::bytes(rest)?;
+        let sections = Sections {
+            first,
+            more,
+            second,
+            again,
+            third,
+        };
+        Some((sections, rest))
+    }
+
+    // The same sections, with running counts of their bits made in `index` as far as it reaches.
+    pub fn indexed(self, index: &'a mut [u32]) -> Sections<'a>
+        ensures { result ≡ self.entry }
+    {
+        let Sections {
+            first,
+            more,
+            second,
+            again,
+            third,
+        } = self;
+        let blocks = more.blocks().min(index.len());
+        let (front, back) = index.split_at_mut(blocks);
+        Sections {
+            first,
+            more: more.indexed(front),
+            second,
+            again: again.indexed(back),
+            third,
+        }
+    }
+
+    // Whether the counts of the parts agree, and every number has as few bytes as hold it.
+    pub fn agree(&self) -> bool
+        ensures { result ≡ agree self.now }
+    {
+        self.more.len() == self.first.len()
+            && self.second.len() == self.more.ones()
+            && self.again.len() == self.second.len()
+            && self.third.len() == self.again.ones()
+            && none_idle(self.second, &self.again)
+            && none_zero(self.third)
+    }
+
+    // Entry i; beyond the end, 0.
+    pub fn entry(&self, i: usize) -> u32
+        ensures { (result ≡ entry_of self.now i) × (result < 16777216) }
+    {
+        let low = byte(self.first, i);
+        if self.more.get(i) {
+            low + 256 * self.second(self.more.ones_before(i))
+        } else {
+            low
+        }
+    }
+
+    // The number that the second and third bytes of an entry make.
+    fn second(&self, j: usize) -> u32
+        ensures { (result ≡ second_of self.now j) × (result < 65536) }
+    {
+        let low = byte(self.second, j);
+        if self.again.get(j) {
+            let k = self.again.ones_before(j);
+            let high = byte(self.third, k);
+            low + 256 * high
+        } else {
+            low
+        }
+    }
+}
+
+// A packed list, seen as its numbers.
+#[derive(Drop)]
+pub struct Coded<'a> {
+    sections: Sections<'a>,
+}
+
+impl<'a> Model for Coded<'a> {
+    ghost use Rattle.std.specs.Prelude.{◌≡◌, List, ℕ, true};
+    ghost use Rattle.coding.specs.Lists.{entries_of};
+    ghost use Rattle.coding.specs.Places.{agree};
+
+    ghost Value = { List ℕ };
+
+    ghost view = { λ c. entries_of c.sections };
+
+    ghost invariant = { λ c. agree c.sections ≡ true };
+}
+
+impl<'a> Coded<'a> {
+    // The packed list that `s` starts with, and what is behind it.
+    pub fn read(s: &'a [u8]) -> Option<(Coded<'a>, &'a [u8])>
+        ensures { MatchOption result (starts_list s.now ≡ false) (λ p. (starts_list s.now ≡ true) × (p.0 ≡ list_at s.now) × (p.1.now ≡ drop (length (packed (list_at s.now))) s.now)) }
+    {
+        let (sections, rest) = Sections::read(s)?;
+        if sections.agree() {
+            return Some((Coded { sections }, rest));
+        }
+        None
+    }
+
+    // The same list, with running counts made in `index` as far as it reaches.
+    pub fn indexed(self, index: &'a mut [u32]) -> Coded<'a>
+        ensures { result ≡ self.entry }
+    {
+        let Coded { sections } = self;
+        Coded {
+            sections: sections.indexed(index),
+        }
+    }
+
+    pub fn len(&self) -> usize
+        ensures { result ≡ length self.now }
+    {
+        self.sections.first.len()
+    }
+
+    // Entry i; beyond the end, 0.
+    pub fn entry(&self, i: usize) -> u32
+        ensures { (result ≡ get_or self.now i 0) × (result < 16777216) }
+    {
+        self.sections.entry(i)
+    }
+}
+
+// Byte i; beyond the end, 0.
+fn byte(s: &[u8], i: usize) -> u32
+    ensures { (result ≡ get_or s.now i 0) × (result < 256) }
+{
+    match s.get(i) {
+        Some(x) => *x as u32,
+        None => 0,
+    }
 }
 
 // Whether no byte is 0.
-fn none_zero(f: &[u8], p: Bytes) -> bool
-    requires { InBytes f.now p }
-    ensures { result ≡ none_zero (bytes_in f.now p) }
+fn none_zero(s: &[u8]) -> bool
+    ensures { result ≡ none_zero s.now }
 {
-    let at = p.at;
-    let end = at + p.n;
-    let mut i = at;
-    while i < end {
-        if f[i] == 0 {
-            return false;
-        }
-        i += 1;
-    }
-    true
+    !s.contains(&0)
 }
 
 // Whether no byte is 0 of which no more follows.
-fn none_idle(f: &[u8], p: Bytes, again: Bits) -> bool
-    requires { InBytes f.now p × InBits f.now [] again }
-    ensures { result ≡ none_idle (bytes_in f.now p) (bits_in f.now again) }
+fn none_idle(s: &[u8], more: &Bits<'_>) -> bool
+    ensures { result ≡ none_idle s.now more.now }
 {
-    let n = p.n;
-    let none = [0u32; 1];
-    let mut i = 0;
-    while i < n {
-        if section::byte(f, p, i) == 0 {
-            if !section::bit(f, &none, again, i) {
-                return false;
-            }
+    for (i, x) in s.iter().enumerate() {
+        if *x == 0 && !more.get(i) {
+            return false;
         }
-        i += 1;
     }
     true
-}
-
-// Whether the counts of the parts agree, and every number has as few bytes as hold it.
-fn sound(f: &[u8], c: Coded) -> bool
-    requires { InCoded f.now [] c }
-    ensures { result ≡ agree (parts_in f.now c) }
-{
-    let first = c.first;
-    let more = c.more;
-    let second = c.second;
-    let again = c.again;
-    let third = c.third;
-    if more.n != first.n {
-        return false;
-    }
-    if second.n != section::ones(f, more) {
-        return false;
-    }
-    if again.n != second.n {
-        return false;
-    }
-    if third.n != section::ones(f, again) {
-        return false;
-    }
-    if none_idle(f, second, again) {
-        return none_zero(f, third);
-    }
-    false
-}
-
-// Where the parts of the list lie whose five sections start at `at`. They have no running counts yet.
-pub fn places(f: &[u8], at: usize) -> Coded
-    requires { Five (drop at f.now) }
-    ensures { PlacedAt f.now at result }
-{
-    let n1 = word::get(f, at) as usize;
-    let b = at + 4 + n1;
-    let n2 = word::get(f, b) as usize;
-    let c = b + 4 + (n2 + 7) / 8;
-    let n3 = word::get(f, c) as usize;
-    let d = c + 4 + n3;
-    let n4 = word::get(f, d) as usize;
-    let e = d + 4 + (n4 + 7) / 8;
-    let n5 = word::get(f, e) as usize;
-    Coded {
-        first: Bytes { at: at + 4, n: n1 },
-        more: Bits {
-            at: b + 4,
-            n: n2,
-            from: 0,
-            to: 0,
-        },
-        second: Bytes { at: c + 4, n: n3 },
-        again: Bits {
-            at: d + 4,
-            n: n4,
-            from: 0,
-            to: 0,
-        },
-        third: Bytes { at: e + 4, n: n5 },
-    }
-}
-
-// Where the list that starts at `at` ends; 0 where none does.
-pub fn end(f: &[u8], at: usize) -> usize
-    ensures { result ≡ cond (starts_list (drop at f.now)) (at + length (packed (list_at (drop at f.now)))) 0 }
-{
-    let a = section::bytes_end(f, at);
-    if a == 0 {
-        return 0;
-    }
-    let b = section::bits_end(f, a);
-    if b == 0 {
-        return 0;
-    }
-    let c = section::bytes_end(f, b);
-    if c == 0 {
-        return 0;
-    }
-    let d = section::bits_end(f, c);
-    if d == 0 {
-        return 0;
-    }
-    let e = section::bytes_end(f, d);
-    if e == 0 {
-        return 0;
-    }
-    if sound(f, places(f, at)) {
-        return e;
-    }
-    0
-}
-
-// The number that the second and third bytes of an entry make.
-fn second(f: &[u8], x: &[u32], c: Coded, j: usize) -> u32
-    requires { InCoded f.now x.now c }
-    ensures { (result ≡ second_of (parts_in f.now c) j) × (result < 65536) }
-{
-    let p = c.second;
-    let b = c.again;
-    let t = c.third;
-    let low = section::byte(f, p, j);
-    if section::bit(f, x, b, j) {
-        let k = section::ones_before(f, x, b, j);
-        let high = section::byte(f, t, k);
-        low + 256 * high
-    } else {
-        low
-    }
-}
-
-// Entry i of a list; beyond the end, 0.
-pub fn entry(f: &[u8], x: &[u32], c: Coded, i: usize) -> u32
-    requires { InCoded f.now x.now c }
-    ensures { (result ≡ entry_of (parts_in f.now c) i) × (result < 16777216) }
-{
-    let p = c.first;
-    let b = c.more;
-    let low = section::byte(f, p, i);
-    if section::bit(f, x, b, i) {
-        let j = section::ones_before(f, x, b, i);
-        let high = second(f, x, c, j);
-        low + 256 * high
-    } else {
-        low
-    }
 }

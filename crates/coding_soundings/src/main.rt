@@ -1,67 +1,56 @@
 // Runs the coding over the soundings of the paper and over damaged lists, and prints every answer and every buffer.
 #![tactic(auto)]
 
+use coding::refusal::Refusal;
+use coding::{Amount, Entry};
 use std::io;
 
-fn say(rt: &impl Print, n: u64) -> io::Result<()> {
-    print!(rt; "{n} ")
+// Prints the number of a refusal, or 0, and the amount beside it.
+fn say_amount(rt: &impl Print, answer: Result<usize, Refusal>) -> io::Result<()> {
+    let Amount { refusal, amount } = answer.into();
+    print!(rt; "{refusal} {amount} ")
 }
 
-fn say_all(rt: &impl Print, bytes: &[u8; 64]) -> io::Result<()> {
-    for byte in bytes {
-        say(rt, wide(*byte))?;
-    }
-    print!(rt; "\n")
-}
-
-fn wide(x: u8) -> u64 {
-    x as u64
+// Prints the number of a refusal, or 0, and the entry beside it.
+fn say_entry(rt: &impl Print, answer: Result<u32, Refusal>) -> io::Result<()> {
+    let Entry { refusal, number } = answer.into();
+    print!(rt; "{refusal} {number} ")
 }
 
 // Packs numbers into a buffer of 7s that is lent up to `room`, and prints the answer and the whole buffer.
 fn pack(rt: &impl Print, numbers: &[u32], room: usize) -> io::Result<()> {
-    let mut buffer = [7u8; 64];
-    if 64 < room {
+    let mut buffer = [7; 64];
+    let Some(lent) = buffer.get_mut(..room) else {
         return Ok(());
+    };
+    say_amount(rt, coding::pack(numbers, lent))?;
+    for byte in &buffer {
+        print!(rt; "{byte} ")?;
     }
-    let r = coding::pack(numbers, &mut buffer[..room]);
-    say(rt, r.refusal as u64)?;
-    say(rt, r.amount as u64)?;
-    say_all(rt, &buffer)
+    print!(rt; "\n")
 }
 
 // Packs each number alone.
 fn singles(rt: &impl Print, numbers: &[u32]) -> io::Result<()> {
     for number in numbers {
-        let one = [*number];
-        pack(rt, &one, 64)?;
+        pack(rt, &[*number], 64)?;
     }
     Ok(())
 }
 
 // Prints what entries 0 to 7 are, and one far beyond.
 fn look_up(rt: &impl Print, list: &[u8]) -> io::Result<()> {
-    for i in 0..8 {
-        let r = coding::look_up(list, i);
-        say(rt, r.refusal as u64)?;
-        say(rt, r.number as u64)?;
+    for i in (0..8).chain([1 << 32]) {
+        say_entry(rt, coding::look_up(list, i))?;
     }
-    let far = coding::look_up(list, 4294967296);
-    say(rt, far.refusal as u64)?;
-    say(rt, far.number as u64)?;
     print!(rt; "\n")
 }
 
 // Prints the ones before places 0 to 17, and before one far beyond.
 fn count_ones(rt: &impl Print, section: &[u8]) -> io::Result<()> {
-    for z in 0..18 {
-        let r = coding::count_ones(section, z);
-        say(rt, r.refusal as u64)?;
-        say(rt, r.amount as u64)?;
+    for z in (0..18).chain([usize::MAX]) {
+        say_amount(rt, coding::count_ones(section, z))?;
     }
-    let far = coding::count_ones(section, 18446744073709551615);
-    say(rt, far.refusal as u64)?;
-    say(rt, far.amount as u64)?;
     print!(rt; "\n")
 }
 
@@ -73,67 +62,56 @@ fn cut(rt: &impl Print, list: &[u8]) -> io::Result<()> {
     Ok(())
 }
 
-// A list with the byte at i made b, and then as it was.
-fn change(rt: &impl Print, list: &mut [u8], i: usize, b: u8) -> io::Result<()> {
-    if i < list.len() {
-        let old = list[i];
-        list[i] = b;
-        let said = look_up(rt, list);
-        list[i] = old;
-        return said;
-    }
-    Ok(())
-}
-
-// A list with each byte changed in three ways.
+// A list with each byte changed in three ways, and then as it was.
 fn changed(rt: &impl Print, list: &mut [u8]) -> io::Result<()> {
     for i in 0..list.len() {
-        change(rt, list, i, 0)?;
-        change(rt, list, i, 1)?;
-        change(rt, list, i, 255)?;
+        let old = list[i];
+        for wrong in [0, 1, 255] {
+            list[i] = wrong;
+            look_up(rt, list)?;
+        }
+        list[i] = old;
     }
     Ok(())
 }
 
 // A list of n bytes with bytes behind it, alone, cut short and changed.
 fn damaged(rt: &impl Print, list: &mut [u8], n: usize) -> io::Result<()> {
-    if list.len() < n {
-        return Ok(());
-    }
     look_up(rt, list)?;
-    look_up(rt, &list[..n])?;
-    cut(rt, &list[..n])?;
-    changed(rt, &mut list[..n])
+    let Some(list) = list.get_mut(..n) else {
+        return Ok(());
+    };
+    look_up(rt, list)?;
+    cut(rt, list)?;
+    changed(rt, list)
 }
 
 // Sections of bits of every count from 0 to 17 over two bytes and a third, and cut short.
 fn sections(rt: &impl Print) -> io::Result<()> {
-    for n in 0u8..18 {
-        let s = [n, 0, 0, 0, 181, 3, 0];
-        count_ones(rt, &s[..4])?;
-        count_ones(rt, &s[..5])?;
-        count_ones(rt, &s[..6])?;
-        count_ones(rt, &s)?;
+    for n in 0..18 {
+        let section = [n, 0, 0, 0, 181, 3, 0];
+        for end in 4..8 {
+            count_ones(rt, &section[..end])?;
+        }
     }
-    let large = [255u8, 255, 255, 255, 181, 3, 0];
+    let large = [255, 255, 255, 255, 181, 3, 0];
     count_ones(rt, &large)?;
     count_ones(rt, &large[..3])
 }
 
 fn main(rt: HostRuntime) -> io::Result<()> {
-    let values = [0u32, 255, 256, 65535, 65536, 16777215, 16777216, 4294967295];
+    let values = [0, 255, 256, 65535, 65536, 16777215, 16777216, 4294967295];
+    let few = &values[..6];
     singles(&rt, &values)?;
-    let few = [0u32, 255, 256, 65535, 65536, 16777215];
-    pack(&rt, &few[..0], 64)?;
-    pack(&rt, &few[..0], 20)?;
-    pack(&rt, &few[..0], 19)?;
-    pack(&rt, &few, 64)?;
-    pack(&rt, &few, 34)?;
-    pack(&rt, &few, 33)?;
-    pack(&rt, &few, 0)?;
+    for room in [64, 20, 19] {
+        pack(&rt, &[], room)?;
+    }
+    for room in [64, 34, 33, 0] {
+        pack(&rt, few, room)?;
+    }
     pack(&rt, &values, 64)?;
-    let mut buffer = [9u8; 64];
-    coding::pack(&few, &mut buffer);
-    damaged(&rt, &mut buffer, 34)?;
+    let mut list = [9; 64];
+    let _ = coding::pack(few, &mut list);
+    damaged(&rt, &mut list, 34)?;
     sections(&rt)
 }

@@ -1,4 +1,3 @@
 -- The definitions that the contracts on stored grids cite, in the order in which they are read.
-pub mod Places
 pub mod Claims
 pub mod Test

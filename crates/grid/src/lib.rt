@@ -1,109 +1,119 @@
-// Stored grids: where their lists lie, and the test of a file.
+// Stored grids: a file opened, and the test of one.
 #![tactic(auto)]
 
-pub mod check;
-pub mod places;
+mod check;
+mod heading;
 
-ghost use Rattle.std.specs.Prelude.{◌≡◌};
-ghost use Rattle.survey.specs.Level.{is_level, turned};
-ghost use Rattle.survey.specs.Raster.{in_limits};
-ghost use Rattle.survey.specs.Reading.{is_file};
-ghost use Rattle.grid.specs.Test.{is_headed};
+ghost use Rattle.std.specs.Prelude.{◌≡◌, true, ◌≤◌, length, MatchOption};
+ghost use Rattle.survey.specs.Answers.{as_heading};
 ghost use Rattle.survey.specs.Calls.{Tests};
+ghost use Rattle.survey.specs.Reading.{is_file};
+ghost use Rattle.grid.specs.Test.{is_headed, IsParted, AreLists};
 
-use coding::{list, section, word};
-use survey::Heading;
+use coding::bits::Bits;
+use coding::list::Coded;
+use coding::refusal::Refusal;
+use coding::{section, word};
+use squares::Pair;
+use std::marker::Model;
+use survey::{Outline, sides};
 
-// Whether the heading is one of a survey within the limits.
-fn is_headed(f: &[u8]) -> bool
-    ensures { result ≡ is_headed f.now }
-{
-    if f.len() < 20 {
-        return false;
-    }
-    if word::get(f, 0) != 4 {
-        return false;
-    }
-    if !is_side(word::get(f, 4)) {
-        return false;
-    }
-    if !is_side(word::get(f, 8)) {
-        return false;
-    }
-    if !is_level(word::get(f, 12)) {
-        return false;
-    }
-    is_level(word::get(f, 16))
+// How many running counts T, Lmax and Lmin have at most.
+const MARKS: usize = 683;
+
+const DROPS: usize = 5462;
+
+const RISES: usize = 1366;
+
+// A file opened whose sections follow one another to its end: what its heading says, and its three lists. It is seen as the file's bytes.
+#[derive(Drop)]
+pub struct Grid<'a> {
+    file: &'a [u8],
+    rows: usize,
+    columns: usize,
+    depth: usize,
+    bounds: Pair,
+    split: Bits<'a>,
+    max: Coded<'a>,
+    min: Coded<'a>,
 }
 
-// Whether a number of rows or columns is within the limits.
-fn is_side(n: u32) -> bool
-    ensures { result ≡ in_limits n }
-{
-    if n < 1 {
-        return false;
-    }
-    n as usize <= survey::sides::SIDE_LIMIT
+impl<'a> Model for Grid<'a> {
+    ghost use Rattle.std.specs.Prelude.{List, ℕ};
+    ghost use Rattle.grid.specs.Test.{Opened};
+
+    ghost Value = { List ℕ };
+
+    ghost view = { λ g. g.file.now };
+
+    ghost invariant = { λ g. Opened g.file.now g.rows g.columns g.depth g.bounds g.split g.max g.min };
 }
 
-// Whether the two's complement of a number is that of a level.
-fn is_level(w: u32) -> bool
-    ensures { result ≡ is_level (turned w) }
-{
-    let v = squares::turn(w);
-    if v < 2139095040 {
-        return false;
+impl<'a> Grid<'a> {
+    // The bytes opened, if they have a heading and sections.
+    pub fn open(file: &'a [u8]) -> Option<Grid<'a>>
+        ensures { MatchOption result (IsParted file.now → ⊥) (λ g. IsParted file.now × (g ≡ file.now)) }
+    {
+        if !heading::is_headed(file) {
+            return None;
+        }
+        let (split, max, min) = lists(file)?;
+        let rows = word::get(file, 4) as usize;
+        let columns = word::get(file, 8) as usize;
+        Some(Grid {
+            file,
+            rows,
+            columns,
+            depth: sides::depth_for(rows, columns),
+            bounds: Pair {
+                hi: squares::turn(word::get(file, 12)),
+                lo: squares::turn(word::get(file, 16)),
+            },
+            split,
+            max,
+            min,
+        })
     }
-    v <= 2155872255
+}
+
+// T, Lmax and Lmin, where they stand behind the heading and nothing is behind them.
+fn lists(file: &[u8]) -> Option<(Bits<'_>, Coded<'_>, Coded<'_>)>
+    requires { is_headed file.now ≡ true }
+    ensures { MatchOption result (IsParted file.now → ⊥) (λ l. IsParted file.now × AreLists file.now l.0 l.1 l.2) }
+{
+    let (split, rest) = section::bits(&file[20..])?;
+    let (max, rest) = Coded::read(rest)?;
+    let (min, rest) = Coded::read(rest)?;
+    if !rest.is_empty() {
+        return None;
+    }
+    Some((split, max, min))
 }
 
 // Whether bytes are the stored form of some survey within the limits.
 pub fn is_file(f: &[u8]) -> bool
     ensures { result ≡ is_file f.now }
 {
-    if !is_headed(f) {
-        return false;
+    let mut marks = [0; MARKS];
+    let mut drops = [0; DROPS];
+    let mut rises = [0; RISES];
+    match Grid::open(f) {
+        Some(grid) => grid.indexed(&mut marks, &mut drops, &mut rises).is_sound(),
+        None => false,
     }
-    let a = section::bits_end(f, 20);
-    if a == 0 {
-        return false;
-    }
-    let b = list::end(f, a);
-    if b == 0 {
-        return false;
-    }
-    let c = list::end(f, b);
-    if c != f.len() {
-        return false;
-    }
-    let top = squares::turn(word::get(f, 12));
-    let low = squares::turn(word::get(f, 16));
-    if top == low {
-        return f.len() == 64;
-    }
-    check::is_sound(f, a, b, top, low)
 }
 
 // Rows, columns, greatest and least of a stored grid.
-pub fn test(f: &[u8]) -> Heading
-    ensures { Tests f.now result }
+pub fn test(f: &[u8]) -> Result<Outline, Refusal>
+    ensures { Tests f.now (as_heading result) }
 {
-    if is_file(f) {
-        let top = squares::turn(word::get(f, 12));
-        let low = squares::turn(word::get(f, 16));
-        return Heading {
-            refusal: 0,
-            rows: word::get(f, 4),
-            columns: word::get(f, 8),
-            greatest: squares::lower(top),
-            least: squares::lower(low),
-        };
+    if !is_file(f) {
+        return Err(Refusal::Form);
     }
-    Heading {
-        refusal: 3,
-        rows: 0,
-        columns: 0,
-        greatest: 0,
-        least: 0,
-    }
+    Ok(Outline {
+        rows: word::get(f, 4),
+        columns: word::get(f, 8),
+        greatest: squares::lower(squares::turn(word::get(f, 12))),
+        least: squares::lower(squares::turn(word::get(f, 16))),
+    })
 }

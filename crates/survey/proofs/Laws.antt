@@ -13,3 +13,4 @@ pub mod Accepting
 pub mod Lengths
 pub mod Levels
 pub mod Calls
+pub mod Answers

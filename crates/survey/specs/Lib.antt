@@ -12,4 +12,5 @@ pub mod Window
 pub mod Key
 pub mod Summary
 pub mod Change
+pub mod Answers
 pub mod Calls

@@ -7,7 +7,6 @@ pub const SIDE_LIMIT: usize = 1024;
 
 pub const DEPTH_LIMIT: usize = 10;
 
-#[repr(C)]
 #[derive(Clone, Copy)]
 pub struct Side {
     pub side: usize,
@@ -81,23 +80,10 @@ pub fn of_depth(depth: usize) -> Side
     SIDES[depth]
 }
 
-// The depth of the side for so many rows and columns.
+// The depth of the side for so many rows and columns: how many sides are too small for them.
 pub fn depth_for(rows: usize, columns: usize) -> usize
     ensures { result ≡ depth_for rows columns }
 {
-    let mut n = rows;
-    if n < columns {
-        n = columns;
-    }
-    let mut depth = 0;
-    let mut k = 0;
-    while k < DEPTH_LIMIT {
-        let row = of_depth(k);
-        let side = row.side;
-        if side < n {
-            depth += 1;
-        }
-        k += 1;
-    }
-    depth
+    let n = rows.max(columns);
+    SIDES[..DEPTH_LIMIT].iter().filter(|s| s.side < n).count()
 }

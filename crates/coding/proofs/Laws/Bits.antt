@@ -1,18 +1,20 @@
 -- Bits, the ones before a place, and both by bytes: the bit i of some bytes is a digit of byte i / 8, and the ones before it are those of the
 -- bytes before that one and of its lower digits. Running counts of ones, and sums of ones over some bytes.
 -- Assumes nothing.
-use mathlib.Core.Path.{◌≡◌, refl, sym, ap, ◌∙◌}
+use mathlib.Core.Path.{◌≡◌, refl, sym, ap, ◌∙◌, subst}
 use mathlib.Core.Bool.{Bool, true, false}
 use mathlib.Core.List.{List, [], ◌∷◌, ◌++◌}
-use Prim.Native.Nat.{ℕ, zero, suc, ◌+◌, ◌*◌, ◌-◌, ◌/◌, ◌%◌, ◌^◌, ◌≤◌, ◌<◌}
-use native.Mathlib.Nat.{div-one, mod-one, mod-eq_of_lt, zero-div}
+use Prim.Native.Nat.{ℕ, zero, suc, ◌+◌, ◌*◌, ◌-◌, ◌/◌, ◌%◌, ◌^◌, ◌≤◌, ◌<◌, min}
+use mathlib.Core.Logic.{◌⊎◌, ⊎_elim}
+use Rattle.std.proofs.lemmas.Bool.{cases_lt}
+use native.Mathlib.Nat.{zero-add, div-one, mod-one, mod-eq_of_lt, zero-div}
 use native.Mathlib.Numerals.{add-one}
 use native.Mathlib.Omega.{arith}
 use lib.Count as Count
 use lib.Dec.{eqb}
-use lib.ListN.{length, get_or, take, get_or-append, length-take, get_or-eq_default}
-use lib.Pow.{shr-shr, field, mod-mod-pow, pow_pos, pow-add, pow_mono}
-use lib.Seq.{get_or-append-add, get_or-take}
+use lib.ListN.{length, get_or, take, drop, get_or-append, length-take, length-drop}
+use lib.Pow.{shr-shr, field, mod-mod-pow, pow_pos, pow-add}
+use lib.Seq.{get_or-append-add, get_or-take, take_all}
 use Rattle.coding.specs.Bits.{bit, ones, ones_before, digits, all_bits}
 use Rattle.coding.specs.Places.{bits_of, ones_in, Index}
 use Rattle.coding.proofs.Laws.Packing.{bit_odd, digits-length, bits_length}
@@ -155,9 +157,6 @@ bit_of s n i h =
     let e : i ≡ 8 * (i / 8) + i % 8 = omega arith in
     get_or-take n (all_bits s) i false h ∙ ap (λ m. get_or (all_bits s) m false) e ∙ bit_at s (i / 8) (i % 8) (omega arith)
 
-pub bit_out : (s : List ℕ) (n i : ℕ) → n ≤ i → get_or (bits_of s n) i false ≡ false
-bit_out s n i h = get_or-eq_default (bits_of s n) false (omega (arith, length-take n (all_bits s)))
-
 pub before_of : (s : List ℕ) (n z : ℕ) → z ≤ n → ones_before (bits_of s n) z ≡ ones_in s (z / 8) + Count.ones (get_or s (z / 8) 0 % 2 ^ (z % 8))
 before_of s n z h =
     let e : z ≡ 8 * (z / 8) + z % 8 = omega arith in
@@ -188,13 +187,9 @@ pub block_of : {s : List ℕ} {n : ℕ} {x : List ℕ} → Index s n x → (z : 
 block_of {s} {n} {x} i z h b = i.right (z / 512) b ∙ before_block s n (z / 512) (omega arith)
 
 -- an index is right whose counts are those of the bytes before each block
-pub index_made : (s x : List ℕ) (n : ℕ) → n ≤ 8 * length s → n < 2 ^ 32 → length x ≡ (n + 511) / 512
+pub index_made : (s x : List ℕ) (n : ℕ) → n ≤ 8 * length s → n < 2 ^ 32 → 512 * length x < n + 512
     → ((k : ℕ) → k < length x → get_or x k 0 ≡ ones_in s (64 * k)) → Index s n x
 index_made s x n f m b r = record { fits = f; small = m; right = λ k h. r k h ∙ sym (before_block s n k (omega arith)) }
-
--- without counts
-pub index_none : (s : List ℕ) (n : ℕ) → n ≤ 8 * length s → n < 2 ^ 32 → Index s n []
-index_none s n f m = record { fits = f; small = m; right = λ k h. absurd (omega arith) }
 
 -- ---- sums of ones over some bytes
 
@@ -219,9 +214,6 @@ word_room k w x p m h b =
     let q : 2 ^ (8 * (8 - (k - 1))) ≡ 2 ^ (8 * (8 - k)) * 256 = ap (λ n. 2 ^ n) e ∙ pow-add 2 (8 * (8 - k)) 8 in
     omega arith
 
-pub word_fits : (k : ℕ) → 2 ^ (8 * (8 - k)) ≤ 2 ^ 64
-word_fits k = pow_mono {j = 64} (omega arith)
-
 pub word_more : (s : List ℕ) (i k w : ℕ) → 0 < k → get_or s (i + (k - 1)) 0 < 256 → Word s i k w
     → Word s i (k - 1) (w * 256 + get_or s (i + (k - 1)) 0)
 word_more s i k w p b h =
@@ -234,9 +226,69 @@ word_more s i k w p b h =
       few = omega (arith, h.few, Count.ones_cat 8 w x b, Count.ones-le 8 x b);
     }
 
--- the ones in the bytes from i to at are sum
-pub record Sum (s : List ℕ) (i e at sum : ℕ) : Type 0 where
-  pub start : i ≤ at
-  pub end : at ≤ e
-  pub count : ones_in s at ≡ ones_in s i + sum
-  pub few : sum ≤ 8 * (at - i)
+-- how many bits there are that are seen as a list
+pub counted : {s x : List ℕ} {n : ℕ} {l : List Bool} → Index s n x → l ≡ bits_of s n → length l ≡ n
+counted {s} {x} {n} i e = ap length e ∙ length_of s n i.fits
+
+-- ---- ones in a part
+
+pub ones_in-add : (s : List ℕ) (a n : ℕ) → ones_in s (a + n) ≡ ones_in s a + ones_in (drop a s) n
+ones_in-add s zero n = rw (zero-add, zero-add) refl
+ones_in-add [] (suc a) n = omega (arith, ones_in-nil (suc a + n), ones_in-nil n)
+ones_in-add (x ∷ s) (suc a) n =
+    let e : suc a + n ≡ suc (a + n) = omega arith in
+    rw e (omega (arith, ones_in-add s a n))
+
+pub ones_in-take : (s : List ℕ) (n : ℕ) → ones_in (take n s) n ≡ ones_in s n
+ones_in-take s zero = refl
+ones_in-take [] (suc n) = refl
+ones_in-take (x ∷ s) (suc n) = ap (λ k. Count.ones (x % 256) + k) (ones_in-take s n)
+
+-- the ones in the bytes from a on, n of them
+pub ones_in_part : (s : List ℕ) (a n k : ℕ) → k ≡ ones_in (take n (drop a s)) n → ones_in s (a + n) ≡ ones_in s a + k
+ones_in_part s a n k e = omega (arith, e, ones_in-add s a n, ones_in-take (drop a s) n)
+
+ones_in-past : (s : List ℕ) (n : ℕ) → length s ≤ n → ones_in s n ≡ ones_in s (length s)
+ones_in-past [] n h = ones_in-nil n
+ones_in-past (x ∷ s) zero h = absurd (omega arith)
+ones_in-past (x ∷ s) (suc n) h = ap (λ k. Count.ones (x % 256) + k) (ones_in-past s n (omega arith))
+
+-- the first n bytes, as far as they go
+pub ones_in_front : (d : List ℕ) (n j : ℕ) → j ≡ min n (length d) → ones_in d n ≡ ones_in (take j d) (length (take j d))
+ones_in_front d n j e =
+    let c : (n < length d) ⊎ (length d ≤ n) = cases_lt n (length d) in
+    ⊎_elim
+    (λ g.
+    let i : n ≡ j = omega arith in
+    let l : j ≡ length (take j d) = omega (arith, length-take j d) in
+    sym (ones_in-take d n) ∙ ap (λ k. ones_in (take k d) k) i ∙ ap (ones_in (take j d)) l)
+    (λ g. ones_in-past d n g ∙ ap (λ u. ones_in u (length u)) (sym (take_all j d (omega arith)))) c
+
+-- the bytes from a on, at most n of them, as far as they go
+pub ones_in_block : (s : List ℕ) (a n m k : ℕ) → a ≤ length s → m ≡ min (a + n) (length s) → let t = take (m - a) (drop a s) in k ≡ ones_in t (length t)
+    → ones_in s (a + n) ≡ ones_in s a + k
+ones_in_block s a n m k h e q =
+    let t = take (m - a) (drop a s) in
+    let l : length t ≡ m - a = omega (arith, length-take (m - a) (drop a s), length-drop a s) in
+    let r : ones_in (drop a s) n ≡ ones_in t (length t) = ones_in_front (drop a s) n (m - a) (omega (arith, length-drop a s)) in
+    omega (arith, ones_in-add s a n, r, q)
+
+-- eight bytes, the first lowest, as one number
+module _ (s : List ℕ) (b : (i : ℕ) → get_or s i 0 < 256) where
+  one_less : (k w : ℕ) → k < 8 → Word s 0 (k + 1) w → Word s 0 k (w * 256 + get_or s k 0)
+  one_less k w l h =
+      let z : 0 + (k + 1 - 1) ≡ k = omega arith in
+      let e : k + 1 - 1 ≡ k = omega arith in
+      let c : get_or s (0 + (k + 1 - 1)) 0 ≡ get_or s k 0 = ap (λ i. get_or s i 0) z in
+      let r = word_more s 0 (k + 1) w (omega arith) (rw c (b k)) h in
+      subst (λ x. Word s 0 k (w * 256 + x)) c (subst (λ j. Word s 0 j (w * 256 + get_or s (0 + (k + 1 - 1)) 0)) e r)
+
+  abbrev byte : ℕ → ℕ
+  byte i = get_or s i 0
+
+  pub eight : (v : ℕ) → v ≡ (((((((0 * 256 + byte 7) * 256 + byte 6) * 256 + byte 5) * 256 + byte 4) * 256 + byte 3) * 256 + byte 2) * 256 + byte 1) * 256 + byte 0
+      → (Count.ones v ≡ ones_in s 8) × (Count.ones v ≤ 64)
+  eight v e =
+      let w = one_less 0 _ (omega arith) (one_less 1 _ (omega arith) (one_less 2 _ (omega arith) (one_less 3 _ (omega arith)
+      (one_less 4 _ (omega arith) (one_less 5 _ (omega arith) (one_less 6 _ (omega arith) (one_less 7 _ (omega arith) (word_none s 0)))))))) in
+      (omega (arith, w.count, ap Count.ones e), omega (arith, w.few, ap Count.ones e))

@@ -2,20 +2,20 @@
 -- Assumes nothing.
 use mathlib.Core.Path.{◌≡◌, refl, sym, ◌∙◌, ap}
 use mathlib.Core.Bool.{Bool, true, false, cond}
-use mathlib.Core.List.{List, [], ◌∷◌, ◌++◌, map, append_assoc}
+use mathlib.Core.List.{List, [], ◌∷◌, ◌++◌, map, append_assoc, append-nil}
 use Prim.Native.Nat.{ℕ, zero, suc, ◌+◌, ◌/◌, ◌%◌, ◌<◌, ◌≤◌}
 use native.Mathlib.Numerals.{add-one}
 use native.Mathlib.Omega.{arith}
 use lib.Dec.{leb}
-use lib.ListN.{length, get_or, drop, length-append, length-map}
-use lib.Seq.{drop-cons, drop-length}
+use lib.ListN.{length, get_or, take, drop, length-append, length-map}
+use lib.Seq.{take-suc, drop-cons, drop-length}
 use borrow.Author.Tests.{le-leb, lt-leb, leb-true, leb-false}
 use Rattle.coding.specs.Bits.{bit}
 use Rattle.coding.specs.Lists.{number_limit, parts_of, rests, rest_if, is_long, low_byte}
 use Rattle.coding.specs.Sections.{byte_section, bit_section, sections_of, packed}
 use Rattle.coding.specs.Calls.{any_from}
 use Rattle.coding.specs.Lanes.{element_of, only_if, item_of, items_of, first_part, more_part, second_part, again_part, third_part, mark_part, count_from}
-use Rattle.coding.specs.declared.lanes.Part.{Part}
+use Rattle.coding.specs.declared.lanes.part.Part.{Part}
 use Rattle.coding.proofs.Laws.Sections.{length-byte_section, length-bit_section}
 
 -- ---- one number
@@ -38,6 +38,12 @@ item_long p v = by_test (leb p.from v)
 
 -- ---- a list
 
+-- a part is its three numbers: how it is known that its weight is not 0 makes no difference
+pub items_same : (p q : Part) → p.bits ≡ q.bits → p.from ≡ q.from → p.by ≡ q.by → (l : List ℕ) → items_of p l ≡ items_of q l
+unfolding items_of item_of
+items_same p q b f y [] = refl
+items_same p q b f y (v ∷ l) = rw (b, f, y, items_same p q b f y l) refl
+
 pub items_append : (p : Part) (a b : List ℕ) → items_of p (a ++ b) ≡ items_of p a ++ items_of p b
 unfolding items_of
 items_append p [] b = refl
@@ -48,15 +54,18 @@ unfolding items_of count_from
 items_long p [] = refl
 items_long p (v ∷ l) = omega (arith, length-append (item_of p v) (items_of p l), item_long p v, items_long p l)
 
+-- one number more
+pub items_more : (p : Part) (l : List ℕ) (k : ℕ) → k < length l → items_of p (take (k + 1) l) ≡ items_of p (take k l) ++ item_of p (get_or l k 0)
+unfolding items_of
+items_more p l k h =
+    let v = get_or l k 0 in
+    rw (add-one k, take-suc l k 0 h) (items_append p (take k l) (v ∷ []) ∙ ap (λ m. items_of p (take k l) ++ m) (append-nil (item_of p v)))
+
 -- a turn of a loop over the numbers, and its end
 module _ (l : List ℕ) (k : ℕ) where
   pub items_turn : (p : Part) → k < length l → items_of p (drop k l) ≡ item_of p (get_or l k 0) ++ items_of p (drop (k + 1) l)
   unfolding items_of
   items_turn p h = rw (add-one k, drop-cons l k 0 h) refl
-
-  pub items_end : (p : Part) → length l ≤ k → k ≤ length l → items_of p (drop k l) ≡ []
-  unfolding items_of
-  items_end p h g = let e : k ≡ length l = omega arith in rw (e, drop-length l) refl
 
   pub count_turn : (low : ℕ) → k < length l → count_from low (drop k l) ≡ bit (leb low (get_or l k 0)) + count_from low (drop (k + 1) l)
   unfolding count_from

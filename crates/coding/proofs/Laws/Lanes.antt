@@ -12,7 +12,8 @@ use lib.Dec.{eqb}
 use lib.ListN.{length, get_or, take, drop, set, length-append, length-set, length-drop, take-append-drop}
 use lib.Seq.{take-suc-set, take-set-le, take-add, drop-set-lt, drop-set-add, get_or-set_same, get_or-set_other}
 use borrow.Author.Tests.{eq-eqb, ne_eqb}
-use Rattle.coding.specs.Lanes.{only_if, then, only, lane_of, Room, Put, Countable, Counted, upto, total, Started}
+use Rattle.coding.specs.Lanes.{view_of, only_if, then, only, lane_of, Room, Put, HasRoom, Puts, Countable, Counted, upto, total, Started}
+use Rattle.coding.specs.declared.lanes.Lanes.{Lanes}
 
 -- ---- loads
 
@@ -93,6 +94,25 @@ module _ {st cur out : List ℕ} where
   rising r a b h g =
       let e : a + (b - a) ≡ b = omega arith in
       rw e at (rising_by r a (b - a) (omega arith))
+
+-- ---- the same of lanes
+
+pub puts_none : {b : Bool} {l : Lanes} {E : ℕ → List ℕ} → ((e : ℕ) → E e ≡ []) → Puts b l l E
+puts_none n = record { starts = refl; cur = refl; out = refl; load = put_none n }
+
+pub puts_same : {b : Bool} {old new : Lanes} {A B : ℕ → List ℕ} → ((e : ℕ) → A e ≡ B e) → Puts b old new A → Puts b old new B
+puts_same s p = record { starts = p.starts; cur = p.cur; out = p.out; load = put_same s p.load }
+
+pub puts_then : {b : Bool} {old mid new : Lanes} {A B : ℕ → List ℕ} → Puts b old mid A → Puts b mid new B → Puts b old new (then A B)
+puts_then {b} {old} {mid} {new} {B = B} p q = record {
+  starts = q.starts ∙ p.starts;
+  cur = q.cur ∙ p.cur;
+  out = q.out ∙ p.out;
+  load = put_then p.load (rw p.starts at q.load);
+}
+
+pub lanes_right : {b : Bool} {old new : Lanes} (A B : ℕ → List ℕ) → HasRoom b old (then A B) → Puts b old new A → HasRoom b new B
+lanes_right {b} {old} {new} A B r p = rw p.starts (room_right A B r p.load)
 
 -- ---- loads counted
 
@@ -185,6 +205,13 @@ module _ (st cur out : List ℕ) (d v : ℕ) (h : d < length cur) (r : Room st c
     rest =
         drop-set-lt (get_or st (length cur) 0) out at v (omega (arith, at_in, rising r (suc d) (length cur) h (omega arith)));
   }
+
+-- the place of the next element of lane d is in the buffer
+pub place_in : (b : Bool) (l : Lanes) (d v : ℕ) → d < length l.cur.now → HasRoom b l (only d (v ∷ []))
+    → get_or l.starts.now d 0 + get_or l.cur.now d 0 < length (view_of b l.out.now)
+place_in b l d v h r =
+    let out = view_of b l.out.now in
+    omega (arith, at_in l.starts.now l.cur.now out d v h r, at_most l.starts.now l.cur.now out d v h r)
 
 -- ---- full lanes
 

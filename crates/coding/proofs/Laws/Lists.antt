@@ -18,6 +18,25 @@ use Rattle.coding.proofs.Laws.Packing.{Bytes}
 pub no_bit : {A : Type 0} → true ≡ false → A
 no_bit e = absurd (omega (arith, ap bit e))
 
+pub not_true : (b : Bool) → (b ≡ true → ⊥) → b ≡ false
+not_true true h = absurd (h refl)
+not_true false h = refl
+
+-- one test more, behind tests that held or did not
+pub held : {p v : Bool} (q : Bool) → p ≡ true → v ≡ q → v ≡ (p && q)
+held q e h = rw e h
+
+pub failed : {p v : Bool} (q : Bool) → p ≡ false → v ≡ p → v ≡ (p && q)
+failed q e h = rw e (h ∙ e)
+
+-- six tests, grouped the other way
+pub in_order : (a b c d e f : Bool) → ((((a && b) && c) && d) && e) && f ≡ a && (b && (c && (d && (e && f))))
+in_order true true true true e f = refl
+in_order true true true false e f = refl
+in_order true true false d e f = refl
+in_order true false c d e f = refl
+in_order false b c d e f = refl
+
 pub and_left : (a b : Bool) → (a && b) ≡ true → a ≡ true
 and_left true b e = refl
 and_left false b e = no_bit (sym e)
@@ -87,13 +106,6 @@ entry_at p i h g =
 pub length_entries : (p : Parts) → length (entries_of p) ≡ length p.first
 unfolding entries_of
 length_entries p = length-joined p.first p.more (joined p.second p.again p.third)
-
--- what a reader adds up, where more follows and where none does
-pub long_sum : (b : Bool) (low high a r : ℕ) → b ≡ true → low ≡ a → high ≡ r → low + 256 * high ≡ a + cond b (256 * r) 0
-long_sum b low high a r e p q = rw (e, p, q) refl
-
-pub short_sum : (b : Bool) (low a r : ℕ) → b ≡ false → low ≡ a → low ≡ a + cond b r 0
-short_sum b low a r e p = rw e (omega arith)
 
 -- ---- from parts to a list and back
 

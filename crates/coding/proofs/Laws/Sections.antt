@@ -6,16 +6,16 @@ use mathlib.Core.List.{List, [], ◌∷◌, ◌++◌, append_assoc, append-nil}
 use Prim.Native.Nat.{ℕ, ◌+◌, ◌*◌, ◌/◌, ◌%◌, ◌≤◌, ◌<◌}
 use native.Mathlib.Omega.{arith}
 use lib.Dec.{eqb, leb}
-use lib.ListN.{length, get_or, take, drop, length-append, length-take, length-drop, take-append-drop}
+use lib.ListN.{length, take, drop, length-append, length-take, length-drop, take-append-drop}
 use lib.Seq.{take_at, drop_at, take-length, length-take-le, get_or-take, get_or-drop}
 use borrow.Author.Tests.{eqb-true, eq-eqb, leb-true, le-leb}
 use Rattle.coding.specs.Bytes.{word, number}
 use Rattle.coding.specs.Bits.{pack_bits, all_bits}
-use Rattle.coding.specs.Lists.{list_limit, Parts, parts_of, entries_of, entry_of}
+use Rattle.coding.specs.Lists.{list_limit, Parts, parts_of, entries_of}
 use Rattle.coding.specs.Sections.{byte_section, bit_section, sections_of, packed, bytes_at, after_bytes, bits_at, after_bits, parts_at, list_at, same, starts, starts_bytes, starts_bits, starts_list, is_bit_section, is_list}
-use Rattle.coding.specs.Places.{bits_of, agree, Five}
+use Rattle.coding.specs.Places.{bits_of, agree, Five, after_five}
 use Rattle.coding.proofs.Laws.Packing.{Bytes, length-pack_bits, bits_length, bits_back}
-use Rattle.coding.proofs.Laws.Lists.{no_bit, and_left, and_right, and_both, entries_parts, entry_at, length_entries, agree_is, is_agree, parts_entries, parts_agree}
+use Rattle.coding.proofs.Laws.Lists.{no_bit, and_left, and_right, and_both, entries_parts, agree_is, is_agree, parts_entries, parts_agree}
 
 -- ---- four bytes and a number
 
@@ -375,17 +375,6 @@ whole_list s b h a =
     is_starts s (packed (list_at s)) (after_bytes (after_bits (after_bytes (after_bits (after_bytes s)))))
     (five_sections s h ∙ ap (λ x. x ++ after_bytes (after_bits (after_bytes (after_bits (after_bytes s))))) (sym (five_list s b h a)))
 
--- how many entries they have, and one of them alone
-pub list_length : (s : List ℕ) → starts_bytes s ≡ true → length (list_at s) ≡ number s
-unfolding list_at parts_at
-list_length s h = omega (arith, length_entries (parts_at s), (starts_bytes_lem s h).size, length-byte_section (bytes_at s))
-
-pub list_entry : (s : List ℕ) (i : ℕ) → agree (parts_at s) ≡ true → get_or (list_at s) i 0 ≡ entry_of (parts_at s) i
-unfolding list_at
-list_entry s i a =
-    let g = agree_is (parts_at s) a in
-    entry_at (parts_at s) i (omega (arith, g.more)) (omega (arith, g.again))
-
 -- ---- nothing behind
 
 -- what starts bytes and is as long as they are is they
@@ -423,3 +412,39 @@ bits_is l =
 
 pub bits_one : (l m : List Bool) → bit_section l ≡ bit_section m → l ≡ m
 bits_one l m e = sym (bits_front l []) ∙ ap (λ s. bits_at (s ++ [])) e ∙ bits_front m []
+
+-- ---- sections read one behind the other
+
+abbrev BytesRead : List ℕ → List ℕ → List ℕ → Type 0
+BytesRead s x t = (starts_bytes s ≡ true) × (x ≡ bytes_at s) × (t ≡ after_bytes s)
+
+abbrev BitsRead : List ℕ → List Bool → List ℕ → Type 0
+BitsRead s x t = (starts_bits s ≡ true) × (x ≡ bits_at s) × (t ≡ after_bits s)
+
+pub five_read : {s a b d e t f g h : List ℕ} {m n : List Bool}
+    → BytesRead s f a → BitsRead a m b → BytesRead b g d → BitsRead d n e → BytesRead e h t
+    → Five s × (record { first = f; more = m; second = g; again = n; third = h } ≡ parts_at s) × (t ≡ after_five s)
+unfolding parts_at
+five_read {s} p q u v w =
+    let a = p.2 in
+    let b = q.2 ∙ ap after_bits a in
+    let d = u.2 ∙ ap after_bytes b in
+    let e = v.2 ∙ ap after_bits d in
+    let m = q.1 ∙ ap bits_at a in
+    let g = u.1 ∙ ap bytes_at b in
+    let n = v.1 ∙ ap bits_at d in
+    let h = w.1 ∙ ap bytes_at e in (
+      record {
+        first = p.0;
+        more = ap starts_bits (sym a) ∙ q.0;
+        second = ap starts_bytes (sym b) ∙ u.0;
+        again = ap starts_bits (sym d) ∙ v.0;
+        third = ap starts_bytes (sym e) ∙ w.0;
+      },
+      λ i. record { first = p.1 i; more = m i; second = g i; again = n i; third = h i },
+      w.2 ∙ ap after_bytes e,
+    )
+
+-- what is behind a list's sections is behind the list
+pub behind_list : (s : List ℕ) → starts_list s ≡ true → after_five s ≡ drop (length (packed (list_at s))) s
+behind_list s e = ap after_five (starts_list_lem s e).is ∙ list_after (list_at s) (drop (length (packed (list_at s))) s)

@@ -7,7 +7,7 @@ use Prim.Native.Nat.{ℕ, zero, suc, ◌+◌, ◌*◌, ◌-◌, ◌/◌, ◌≤�
 use native.Mathlib.Decide.{dec_lt}
 use native.Mathlib.Omega.{arith}
 use lib.ListN.{length, get_or, take, drop, set, length-drop, length-map, length-set, drop_of_length-le, get_or-replicate, get_or-eq_default}
-use lib.Seq.{sets, sets-eq, length-sets, take_all, take_at, drop_at, get_or-drop, get_or-append-add, get_or-set_same}
+use lib.Seq.{sets, sets-eq, take_all, take_at, drop_at, get_or-drop, get_or-append-add, get_or-set_same}
 use borrow.Rule.Slice.PartMut.{put_mid, mid_of}
 use Rattle.coding.specs.Bytes.{word}
 use Rattle.coding.specs.Bits.{bit, digits, pack_bits, all_bits}
@@ -78,9 +78,6 @@ written false items old new n e k l y z v =
 -- ---- a buffer with room for just the section: its last byte is cleared and its count written, and then its body is lent
 
 module _ (o xs : List ℕ) (n : ℕ) (h : 4 ≤ length o) (e : xs ≡ sets (set o (length o - 1) 0) 0 (word n)) where
-  pub begun_long : length xs ≡ length o
-  begun_long = ap length e ∙ length-sets (set o (length o - 1) 0) 0 (word n) ∙ length-set o (length o - 1) 0
-
   begun : xs ≡ word n ++ drop 4 (set o (length o - 1) 0)
   begun =
       let q : 0 + length (word n) ≡ 4 = omega (arith, length-word n) in

@@ -1,20 +1,19 @@
--- `coding::look_up` meets its contract: bytes are a packed list just if one starts them, ends where they do and is short enough.
+-- `coding::look_up` meets its contract: bytes are a packed list just if one starts them, nothing is behind it, and it is short enough.
 use mathlib.Core.Path.{◌≡◌, refl, sym, ap, ◌∙◌}
 use mathlib.Core.Bool.{Bool, true, false, not}
 use mathlib.Core.List.{List, [], ◌∷◌}
-use Prim.Native.Nat.{ℕ, ◌≤◌, ◌<◌}
+use Prim.Native.Nat.{ℕ, ◌-◌, ◌≤◌, ◌<◌}
 use native.Mathlib.Omega.{arith}
-use borrow.Author.Tests.{le-leb, lt-leb}
+use borrow.Author.Tests.{le-leb, lt-leb, eqb-true, eqb-false}
 use lib.Dec.{leb}
-use lib.ListN.{length, get_or}
-use Rattle.coding.specs.Lists.{list_limit, entry_of}
+use lib.ListN.{length, get_or, drop, length-drop, length-append}
+use Rattle.coding.specs.Lists.{list_limit}
 use Rattle.coding.specs.Calls.{refuse, first_of, entry_answer, look_up_refusal, LooksUp}
 use Rattle.coding.specs.Sections.{packed, list_at, same, starts_list, is_list}
-use Rattle.coding.proofs.Laws.Lists.{and_left, and_both}
-use Rattle.coding.proofs.Laws.Places.{end_starts, end_is}
-use Rattle.coding.proofs.Laws.Sections.{WholeList, starts_bytes_lem, starts_list_lem, list_length, list_entry, starts-whole, whole-starts, is_list_lem}
+use Rattle.coding.proofs.Laws.Lists.{no_bit, and_left, and_both}
+use Rattle.coding.proofs.Laws.Sections.{starts-whole, whole-starts, starts_list_lem, is_list_lem}
 use Rattle.coding.proofs.look_up.Goals as goal
-use Rattle.coding.proofs.look_up.Goals.{After-get-n, Else-end-s, Else-n-gt-LIST_LIMIT}
+use Rattle.coding.proofs.look_up.Goals.{In-Some, Else-n-gt-LIST_LIMIT, then-not-is_empty-via-then-not-is_empty, then-not-is_empty-via-else-not-is_empty+then-n-gt-LIST_LIMIT}
 
 -- ---- a list, and nothing behind it
 
@@ -49,56 +48,42 @@ an_entry s i r e h q = record { answer = rw (e, lt-leb (length (list_at s)) i h,
 
 -- ---- the function
 
-pub returns-then-end-eq0 : goal.returns-then-end-eq0
-returns-then-end-eq0 c =
-    let a = c.args in
-    let s = a.s.now in
-    no_list s a.i (λ e. let w = list_starts s e in
-    omega (arith, end_is _ _ _ c.end-end.ensures w, ap length (is_list_lem s e).0, (starts_bytes_lem s (starts_list_lem s w).five.first).head))
+pub returns-in_default : goal.returns-in_default
+returns-in_default c = no_list c.args.s.now c.args.i (λ e. no_bit (sym (list_starts c.args.s.now e) ∙ c.in_default.ensures))
 
-pub returns-then-end-s : goal.returns-then-end-s
-returns-then-end-s c =
-    let a = c.args in
-    let s = a.s.now in
-    no_list s a.i (λ e. c.if-end-s.true (omega (arith, end_is _ _ _ c.end-end.ensures (list_starts s e), ap length (is_list_lem s e).0)))
+-- what is behind the list is as long as the bytes less the list
+behind : (c : In-Some) → length c.in-Some.rest.now ≡ length c.args.s.now - length (packed (list_at c.args.s.now))
+behind c = ap length c.in-Some.ensures.2 ∙ length-drop (length (packed (list_at c.args.s.now))) c.args.s.now
 
-starts : (c : Else-end-s) → starts_list c.args.s.now ≡ true
-starts c = end_starts _ _ _ c.end-end.ensures c.if-end-eq0.false
+pub returns-then-not-is_empty : goal.returns-then-not-is_empty
+returns-then-not-is_empty c =
+    let s = c.args.s.now in
+    let p = (goal.at.returns-then-not-is_empty c).In-Some in
+    no_list s c.args.i (λ e. elim c.then-not-is_empty.branch [
+      | then-not-is_empty-via-then-not-is_empty w ↦
+          eqb-false _ _ (sym c.is_empty.ensures ∙ w.if-not-is_empty.true) (omega (arith, behind p, ap length (is_list_lem s e).0))
+      | then-not-is_empty-via-else-not-is_empty+then-n-gt-LIST_LIMIT w ↦
+          omega (arith, c.len-n.ensures, ap length c.in-Some.ensures.1, (is_list_lem s e).1, w.if-n-gt-LIST_LIMIT.true)
+    ])
 
-whole : (c : Else-end-s) → WholeList c.args.s.now
-whole c = starts_list_lem _ (starts c)
-
-count : (c : After-get-n) → length (list_at c.args.s.now) ≡ c.get-n.result
-count c =
-    let w = starts_list_lem c.args.s.now (end_starts _ _ _ c.end-end.ensures c.if-end-eq0.false) in
-    list_length _ w.five.first ∙ sym c.get-n.ensures
-
+-- a list that is short enough, and nothing behind it
 list : (c : Else-n-gt-LIST_LIMIT) → is_list c.args.s.now ≡ true
 list c =
     let s = c.args.s.now in
-    let w = end_starts _ _ _ c.end-end.ensures c.if-end-eq0.false in
-    let n = list_length _ (starts_list_lem s w).five.first ∙ sym c.get-n.ensures in
-    starts_is s w (omega (arith, end_is _ _ _ c.end-end.ensures w, c.if-end-s.false)) (omega (arith, n, c.if-n-gt-LIST_LIMIT.false))
-
-pub get-n-requires : goal.get-n-requires
-get-n-requires c = omega (arith, (starts_bytes_lem _ (whole c).five.first).head)
-
-pub returns-then-n-gt-LIST_LIMIT : goal.returns-then-n-gt-LIST_LIMIT
-returns-then-n-gt-LIST_LIMIT c =
-    let s = c.args.s.now in
-    no_list s _ (λ e. omega (arith, (is_list_lem s e).1, count (goal.at.returns-then-n-gt-LIST_LIMIT c).After-get-n, c.if-n-gt-LIST_LIMIT.true))
+    let l = packed (list_at s) in
+    let p = c.in-Some.ensures in
+    let e = eqb-true _ _ (sym c.is_empty.ensures ∙ c.if-not-is_empty.false) in
+    starts_is s p.0
+    (omega (arith, e, ap length p.2, length-drop (length l) s, ap length (starts_list_lem s p.0).is, length-append l (drop (length l) s)))
+    (omega (arith, c.len-n.ensures, ap length p.1, c.if-n-gt-LIST_LIMIT.false))
 
 pub returns-then-n-i : goal.returns-then-n-i
-returns-then-n-i c = no_entry _ _ (list (goal.at.returns-then-n-i c).Else-n-gt-LIST_LIMIT) (omega (arith, count (goal.at.returns-then-n-i c).After-get-n, c.if-n-i.true))
-
-pub places-c-requires : goal.places-c-requires
-places-c-requires c = (whole (goal.at.places-c-requires c).Else-end-s).five
-
-pub entry-number-requires : goal.entry-number-requires
-entry-number-requires c = c.places-c.ensures.inside _
+returns-then-n-i c =
+    no_entry c.args.s.now c.args.i (list (goal.at.returns-then-n-i c).Else-n-gt-LIST_LIMIT)
+    (omega (arith, c.len-n.ensures, ap length c.in-Some.ensures.1, c.if-n-i.true))
 
 pub returns : goal.returns
 returns c =
-    let a = c.args in
-    an_entry _ _ _ (list (goal.at.returns c).Else-n-gt-LIST_LIMIT) (omega (arith, count (goal.at.returns c).After-get-n, c.if-n-i.false))
-    (c.entry-number.ensures.0 ∙ ap (λ q. entry_of q a.i) c.places-c.ensures.parts ∙ sym (list_entry a.s.now a.i (whole (goal.at.returns c).Else-end-s).agrees))
+    an_entry c.args.s.now c.args.i c.entry.result (list (goal.at.returns c).Else-n-gt-LIST_LIMIT)
+    (omega (arith, c.len-n.ensures, ap length c.in-Some.ensures.1, c.if-n-i.false))
+    (c.entry.ensures.0 ∙ ap (λ l. get_or l c.args.i 0) c.in-Some.ensures.1)

@@ -21,9 +21,12 @@ use Rattle.survey.specs.Reading.{rows_in, columns_in, greatest_in, least_in, lis
 use Rattle.survey.proofs.Laws.Squares.{Inside, Proper, proper}
 use Rattle.survey.proofs.Laws.Cells.{corner_inside, alike_bounds}
 use Rattle.squares.specs.Pair.{pair, pair_of, quad, above_of}
+use Rattle.squares.specs.declared.Pair.{Pair}
+use Rattle.squares.specs.declared.Quad.{Quad}
+use Rattle.std.specs.Prelude.{Option, Some, None}
+use Rattle.std.specs.Option.{is_some}
 use Rattle.grid.specs.Claims.{Fit, Says}
-use Rattle.grid.specs.Test.{Looked, Bare, Joined, Wholly}
-use Rattle.grid.specs.declared.check.Found.{Found}
+use Rattle.grid.specs.Test.{Looked, Bare, Quarters, Quartered, Wholly}
 use Rattle.grid.proofs.Laws.Claims.{Flat, flat_none, none_flat, flat_level, flat_cell, cell_flat, flat_even, even_flat, fit_mark, split_fit, fit_split, says_cell, says_even, says_split}
 use Rattle.grid.proofs.Laws.Pairs.{Low, low_under, fold_pair, pair_apart, pair_real}
 
@@ -32,21 +35,6 @@ use Rattle.grid.proofs.Laws.Pairs.{Low, low_under, fold_pair, pair_apart, pair_r
 flat_some : (x g l u : ℕ) (q : Bounds) → Inside (span u u) q → Proper q → Flat x g l q → (x ≤ g) × (l ≤ g - x)
 flat_some x g l u none i p f = absurd i
 flat_some x g l u (span a b) i p f = omega (arith, f.drop, f.under, f.over)
-
-module _ {A : Raster} {L : Lists} {k z g l r c : ℕ} {t : Found} where
-  unfit_looked : t.ok ≡ false → (Fit A L k z g l r c → ⊥) → Looked A L k z g l r c t
-  unfit_looked e h = record { fits = λ o. no_bit (sym o ∙ e); pair_is = λ o. no_bit (sym o ∙ e); unfit = λ o. h }
-
-  fit_looked : t.ok ≡ true → Fit A L k z g l r c → t.pair ≡ pair_of (bounds_at A k r c) → Looked A L k z g l r c t
-  fit_looked e f p = record { fits = λ o. f; pair_is = λ o. p; unfit = λ o. no_bit (sym e ∙ o) }
-
-  -- a square that fits is found to
-  pub looked_ok : Looked A L k z g l r c t → Fit A L k z g l r c → t.ok ≡ true
-  looked_ok h f = by_case t.ok refl
-    where
-      by_case : (b : Bool) → t.ok ≡ b → t.ok ≡ true
-      by_case true e = e
-      by_case false e = absurd (h.unfit e f)
 
 module _ (A : Raster) (L : Lists) where
   open L use {split_marks, lmax, lmin}
@@ -65,22 +53,21 @@ module _ (A : Raster) (L : Lists) where
   fit_even (suc k) z g l r c n f = fit_mark A L k z g l r c f
 
   -- ---- no real cell
-  pub looked_none : {k z g l r c : ℕ} {t : Found} → bounds_at A k r c ≡ none → Bare L k z t → Looked A L k z g l r c t
-  looked_none {k} {z} {g} {l} {r} {c} n b = record {
-    fits = λ o. flat_fit k z g l r c (b.mark o) (ap is_uneven n) (subst (Flat (get_or lmax z 0) g l) (sym n) (flat_none (get_or lmax z 0) g l (b.drop o)));
-    pair_is = λ o. b.pair_is o ∙ ap pair_of (sym n);
-    unfit = λ o f.
-        let u = b.unfit o (none_flat (get_or lmax z 0) g l (subst (Flat (get_or lmax z 0) g l) n (fit_flat k z g l r c f))) in
-        no_bit (sym u.1 ∙ fit_even k z g l r c u.0 f ∙ ap is_uneven n);
-  }
+  pub looked_none : (k z g l r c : ℕ) (t : Option Pair) → bounds_at A k r c ≡ none → Bare L k z t → Looked A L k z g l r c t
+  looked_none k z g l r c None n b = λ f.
+      let u = b (none_flat (get_or lmax z 0) g l (subst (Flat (get_or lmax z 0) g l) n (fit_flat k z g l r c f))) in
+      no_bit (sym u.1 ∙ fit_even k z g l r c u.0 f ∙ ap is_uneven n)
+  looked_none k z g l r c (Some p) n b = (
+    flat_fit k z g l r c b.1 (ap is_uneven n) (subst (Flat (get_or lmax z 0) g l) (sym n) (flat_none (get_or lmax z 0) g l b.0)),
+    b.2 ∙ ap pair_of (sym n),
+  )
 
   -- ---- a real cell, and a greatest or least that does not go down
-  pub looked_fault : {k z g l r c : ℕ} {t : Found} → t.ok ≡ false → r * 2 ^ k < A.rows → c * 2 ^ k < A.columns
-      → (get_or lmax z 0 ≤ g → l ≤ g - get_or lmax z 0 → ⊥) → Looked A L k z g l r c t
-  looked_fault {k} {z} {g} {l} {r} {c} e p q h =
-      unfit_looked e
-      (λ f. let s = flat_some (get_or lmax z 0) g l (A.level (r * 2 ^ k) (c * 2 ^ k)) (bounds_at A k r c) (corner_inside A k r c p q) (proper A k r c) (fit_flat k z g l r c f) in
-      h s.0 s.1)
+  pub looked_fault : {k z g l r c : ℕ} → r * 2 ^ k < A.rows → c * 2 ^ k < A.columns → (get_or lmax z 0 ≤ g → l ≤ g - get_or lmax z 0 → ⊥)
+      → Fit A L k z g l r c → ⊥
+  looked_fault {k} {z} {g} {l} {r} {c} p q h f =
+      let s = flat_some (get_or lmax z 0) g l (A.level (r * 2 ^ k) (c * 2 ^ k)) (bounds_at A k r c) (corner_inside A k r c p q) (proper A k r c) (fit_flat k z g l r c f) in
+      h s.0 s.1
 
   -- ---- one level
   even_bounds : (k z g r c : ℕ) → r * 2 ^ k < A.rows → c * 2 ^ k < A.columns → Says A L k z g r c → ((k ≡ 0 → ⊥) → get_or split_marks z false ≡ false)
@@ -89,24 +76,24 @@ module _ (A : Raster) (L : Lists) where
   even_bounds (suc k) z g r c p q s m =
       alike_bounds A (suc k) r c (g - get_or lmax z 0) p q (says_even A L k z g r c (m (λ n. omega arith)) s)
 
-  pub looked_level : {k z g l r c : ℕ} {t : Found} → (t.ok ≡ true) × (t.pair ≡ pair (g - get_or lmax z 0) (g - get_or lmax z 0))
-      → r * 2 ^ k < A.rows → c * 2 ^ k < A.columns → Says A L k z g r c → ((k ≡ 0 → ⊥) → get_or split_marks z false ≡ false)
-      → get_or lmax z 0 ≤ g → l ≤ g - get_or lmax z 0 → Looked A L k z g l r c t
-  looked_level {k} {z} {g} {l} {r} {c} {t} e p q s m h o =
+  pub looked_level : {k z g l r c v : ℕ} → v ≡ g - get_or lmax z 0 → r * 2 ^ k < A.rows → c * 2 ^ k < A.columns → Says A L k z g r c
+      → ((k ≡ 0 → ⊥) → get_or split_marks z false ≡ false) → get_or lmax z 0 ≤ g → l ≤ g - get_or lmax z 0
+      → Looked A L k z g l r c (Some (pair v v))
+  looked_level {k} {z} {g} {l} {r} {c} e p q s m h o =
       let v = g - get_or lmax z 0 in
-      let b = even_bounds k z g r c p q s m in
-      fit_looked e.0
-      (flat_fit k z g l r c m (ap is_uneven b ∙ ap not (eq-eqb v v refl)) (subst (Flat (get_or lmax z 0) g l) (sym b) (flat_level (get_or lmax z 0) g l v h refl o)))
-      (e.1 ∙ ap pair_of (sym b))
+      let b = even_bounds k z g r c p q s m in (
+        flat_fit k z g l r c m (ap is_uneven b ∙ ap not (eq-eqb v v refl)) (subst (Flat (get_or lmax z 0) g l) (sym b) (flat_level (get_or lmax z 0) g l v h refl o)),
+        ap (λ (n : ℕ). pair n n) e ∙ ap pair_of (sym b),
+      )
 
   -- ---- a split square whose least would not be below its greatest
-  pub looked_close : {k z g l r c : ℕ} {t : Found} → t.ok ≡ false → get_or split_marks z false ≡ true
-      → g - get_or lmax z 0 - l ≤ get_or lmin (ones_before split_marks z) 0 → Looked A L (suc k) z g l r c t
-  looked_close {k} {z} {g} {l} {r} {c} e m h =
-      unfit_looked e
-      (λ f. let s = fit_split A L k z g l (g - get_or lmax z 0) (l + get_or lmin (ones_before split_marks z) 0) r c m refl refl f in
+  pub looked_close : {k z g l r c : ℕ} → (k ≡ 0 → ⊥) → get_or split_marks z false ≡ true
+      → g - get_or lmax z 0 - l ≤ get_or lmin (ones_before split_marks z) 0 → Fit A L k z g l r c → ⊥
+  looked_close {k = zero} d m h f = d refl
+  looked_close {k = suc k} {z} {g} {l} {r} {c} d m h f =
+      let s = fit_split A L k z g l (g - get_or lmax z 0) (l + get_or lmin (ones_before split_marks z) 0) r c m refl refl f in
       let p : l + get_or lmin (ones_before split_marks z) 0 ≤ g - get_or lmax z 0 = subst Proper s.pair_is (proper A (suc k) r c) in
-      s.apart (omega arith))
+      s.apart (omega arith)
 
   -- ---- four quarters
 
@@ -114,33 +101,37 @@ module _ (A : Raster) (L : Lists) where
   fit_low k z v w r c h f = low_under (bounds_at A k r c) v (proper A k r c) f.under h
 
   -- what is found at quarters that fit makes the pair of their square
-  module _ (k r c v w : ℕ) (small : v < 4294967296) {a b d e : Found} {z0 z1 z2 z3 : ℕ}
-      (la : Looked A L k z0 v w (2 * r) (2 * c) a) (lb : Looked A L k z1 v w (2 * r) (2 * c + 1) b)
-      (ld : Looked A L k z2 v w (2 * r + 1) (2 * c) d) (le : Looked A L k z3 v w (2 * r + 1) (2 * c + 1) e)
-      (oa : a.ok ≡ true) (ob : b.ok ≡ true) (od : d.ok ≡ true) (oe : e.ok ≡ true) where
-    pub above_is : above_of (quad a.pair b.pair d.pair e.pair) ≡ pair_of (bounds_at A (suc k) r c)
-    above_is =
-        (λ i. above_of (quad (la.pair_is oa i) (lb.pair_is ob i) (ld.pair_is od i) (le.pair_is oe i)))
-        ∙ fold_pair (bounds_at A k (2 * r) (2 * c)) (bounds_at A k (2 * r) (2 * c + 1)) (bounds_at A k (2 * r + 1) (2 * c)) (bounds_at A k (2 * r + 1) (2 * c + 1))
-        (fit_low k z0 v w (2 * r) (2 * c) small (la.fits oa))
-        (fit_low k z1 v w (2 * r) (2 * c + 1) small (lb.fits ob))
-        (fit_low k z2 v w (2 * r + 1) (2 * c) small (ld.fits od))
-        (fit_low k z3 v w (2 * r + 1) (2 * c + 1) small (le.fits oe))
+  pub above_is : (k r c first : ℕ) (own : Pair) (q : Quad) → own.hi < 4294967296 → Quarters A L k first own r c
+      → q.a ≡ pair_of (bounds_at A k (2 * r + 0) (2 * c + 0)) → q.b ≡ pair_of (bounds_at A k (2 * r + 0) (2 * c + 1))
+      → q.c ≡ pair_of (bounds_at A k (2 * r + 1) (2 * c + 0)) → q.d ≡ pair_of (bounds_at A k (2 * r + 1) (2 * c + 1))
+      → above_of q ≡ pair_of (bounds_at A (suc k) r c)
+  above_is k r c first own q small f a b d e =
+      let y : 2 * r + 0 ≡ 2 * r = omega arith in
+      let x : 2 * c + 0 ≡ 2 * c = omega arith in
+      let m0 : bounds_at A k (2 * r + 0) (2 * c + 0) ≡ bounds_at A k (2 * r) (2 * c) = λ i. bounds_at A k (y i) (x i) in
+      let m1 : bounds_at A k (2 * r + 0) (2 * c + 1) ≡ bounds_at A k (2 * r) (2 * c + 1) = λ i. bounds_at A k (y i) (2 * c + 1) in
+      let m2 : bounds_at A k (2 * r + 1) (2 * c + 0) ≡ bounds_at A k (2 * r + 1) (2 * c) = λ i. bounds_at A k (2 * r + 1) (x i) in
+      let low = λ (i : ℕ) (h : i < 4). fit_low k (first + i) own.hi own.lo (2 * r + i / 2) (2 * c + i % 2) small (f i h) in
+      let p0 = a ∙ ap pair_of m0 in
+      let p1 = b ∙ ap pair_of m1 in
+      let p2 = d ∙ ap pair_of m2 in
+      (λ i. above_of (quad (p0 i) (p1 i) (p2 i) (e i)))
+      ∙ fold_pair (bounds_at A k (2 * r) (2 * c)) (bounds_at A k (2 * r) (2 * c + 1)) (bounds_at A k (2 * r + 1) (2 * c)) (bounds_at A k (2 * r + 1) (2 * c + 1))
+      (subst Low m0 (low 0 (omega arith))) (subst Low m1 (low 1 (omega arith))) (subst Low m2 (low 2 (omega arith))) (low 3 (omega arith))
 
-  fit_move : {k z y v w r p c q : ℕ} → z ≡ y → r ≡ p → c ≡ q → Fit A L k z v w r c → Fit A L k y v w p q
-  fit_move {k} {z} {y} {v} {w} {r} {p} {c} {q} e h s f = subst (λ (n : ℕ). Fit A L k n v w p q) e (subst (λ (n : ℕ). Fit A L k z v w n q) h (subst (λ (n : ℕ). Fit A L k z v w r n) s f))
+  pub fit_move : {k j z y v w r p c q : ℕ} → k ≡ j → z ≡ y → r ≡ p → c ≡ q → Fit A L k z v w r c → Fit A L j y v w p q
+  fit_move {k} {j} {z} {y} {v} {w} {r} {p} {c} {q} d e h s f =
+      subst (λ (n : ℕ). Fit A L n y v w p q) d
+      (subst (λ (n : ℕ). Fit A L k n v w p q) e (subst (λ (n : ℕ). Fit A L k z v w n q) h (subst (λ (n : ℕ). Fit A L k z v w r n) s f)))
 
   -- the four by their number
-  module _ {k v w : ℕ} (first r c : ℕ) where
-    pub four : {z0 z1 z2 z3 : ℕ} → z0 ≡ first → z1 ≡ first + 1 → z2 ≡ first + 2 → z3 ≡ first + 3
-        → Fit A L k z0 v w (2 * r) (2 * c) → Fit A L k z1 v w (2 * r) (2 * c + 1)
-        → Fit A L k z2 v w (2 * r + 1) (2 * c) → Fit A L k z3 v w (2 * r + 1) (2 * c + 1)
-        → (i : ℕ) → i < 4 → Fit A L k (first + i) v w (2 * r + i / 2) (2 * c + i % 2)
-    four p q s t f g h j zero b = fit_move (omega arith) (omega arith) (omega arith) f
-    four p q s t f g h j (suc zero) b = fit_move (omega arith) (omega arith) (omega arith) g
-    four p q s t f g h j (suc (suc zero)) b = fit_move (omega arith) (omega arith) (omega arith) h
-    four p q s t f g h j (suc (suc (suc zero))) b = fit_move (omega arith) (omega arith) (omega arith) j
-    four p q s t f g h j (suc (suc (suc (suc i)))) b = absurd (omega arith)
+  pub four : {k : ℕ} {own : Pair} (first r c : ℕ) → let F = λ (i : ℕ). Fit A L k (first + i) own.hi own.lo (2 * r + i / 2) (2 * c + i % 2) in
+      F 0 → F 1 → F 2 → F 3 → Quarters A L k first own r c
+  four first r c f g h j zero b = f
+  four first r c f g h j (suc zero) b = g
+  four first r c f g h j (suc (suc zero)) b = h
+  four first r c f g h j (suc (suc (suc zero))) b = j
+  four first r c f g h j (suc (suc (suc (suc i)))) b = absurd (omega arith)
 
   -- what a reader finds in a quarter; o is the ones before the square's place
   pub says-quarter : (k z g r c : ℕ) {o v y p q : ℕ} (i : ℕ) → i < 4 → (k ≡ 0 → ⊥) → get_or split_marks z false ≡ true → o ≡ ones_before split_marks z → v ≡ g - get_or lmax z 0
@@ -151,65 +142,54 @@ module _ (A : Raster) (L : Lists) where
       let w : y ≡ 4 * ones_before split_marks (suc z) + i = omega (arith, before_suc split_marks z, ap bit m) in
       rw (n, w, f, s, u) (says_split A L k z g r c i b m x)
 
-  pub looked_split : {k z g l r c v w o : ℕ} {a b d e t : Found} → get_or split_marks z false ≡ true → get_or lmax z 0 ≤ g → v ≡ g - get_or lmax z 0
-      → w ≡ l + get_or lmin (ones_before split_marks z) 0 → w < v → v < 4294967296 → o ≡ ones_before split_marks z
-      → Looked A L k (4 * (o + 1)) v w (2 * r) (2 * c) a → Looked A L k (4 * (o + 1) + 1) v w (2 * r) (2 * c + 1) b
-      → Looked A L k (4 * (o + 1) + 2) v w (2 * r + 1) (2 * c) d → Looked A L k (4 * (o + 1) + 3) v w (2 * r + 1) (2 * c + 1) e
-      → Joined a b d e v w t → Looked A L (suc k) z g l r c t
-  looked_split {k} {z} {g} {l} {r} {c} {v} {w} {o} {a} {b} {d} {e} {t} m h x y n small q la lb ld le j =
-      let n1 : ones_before split_marks (suc z) ≡ ones_before split_marks z + 1 = omega (arith, before_suc split_marks z, ap bit m) in
-      record {
-        fits = λ ok.
-            let u = j.quarters ok in
-            let p : bounds_at A (suc k) r c ≡ span v w =
-            pair_apart v w (bounds_at A (suc k) r c) (sym (above_is k r c v w small la lb ld le u.0 u.1 u.2 u.3) ∙ j.makes ok) n in
-            split_fit A L k z g l v w r c m
+  -- a split square, from its quarters
+  pub looked_split : (k z g l r c : ℕ) {first : ℕ} {own : Pair} (t : Option Pair) → (k ≡ 0 → ⊥) → get_or split_marks z false ≡ true → get_or lmax z 0 ≤ g → own.hi ≡ g - get_or lmax z 0
+      → own.lo ≡ l + get_or lmin (ones_before split_marks z) 0 → own.lo < own.hi → first ≡ 4 * (ones_before split_marks z + 1)
+      → Quartered A L (k - 1) first own r c t → Looked A L k z g l r c t
+  looked_split zero z g l r c t d m h x y n e j = absurd (d refl)
+  looked_split (suc k) z g l r c {first} {own} t d m h x y n e j =
+      let u : suc k - 1 ≡ k = omega arith in
+      by_case t (subst (λ (b : ℕ). Quartered A L b first own r c t) u j)
+    where
+      place : (i : ℕ) → 4 * ones_before split_marks (suc z) + i ≡ first + i
+      place i = omega (arith, before_suc split_marks z, ap bit m, e)
+
+      by_case : (t : Option Pair) → Quartered A L k first own r c t → Looked A L (suc k) z g l r c t
+      by_case None j = λ f.
+          let s = fit_split A L k z g l own.hi own.lo r c m x y f in
+          j (λ i b. fit_move refl (place i) refl refl (s.parts i b)) (ap pair_of s.pair_is)
+      by_case (Some p) j = (
+        split_fit A L k z g l own.hi own.lo r c m
             record {
               fits = h;
               v_is = x;
               w_is = y;
-              pair_is = p;
+              pair_is = pair_apart own.hi own.lo (bounds_at A (suc k) r c) j.1 n;
               apart = λ f. omega arith;
-              parts = four (4 * ones_before split_marks (suc z)) r c (omega arith) (omega arith) (omega arith) (omega arith) (la.fits u.0) (lb.fits u.1) (ld.fits u.2) (le.fits u.3);
-            };
-        pair_is = λ ok.
-            let u = j.quarters ok in
-            j.pair_is ok ∙ sym (j.makes ok) ∙ above_is k r c v w small la lb ld le u.0 u.1 u.2 u.3;
-        unfit = λ ok f.
-            let s = fit_split A L k z g l v w r c m x y f in
-            let oa = looked_ok la (fit_move (omega arith) (omega arith) (omega arith) (s.parts 0 (omega arith))) in
-            let ob = looked_ok lb (fit_move (omega arith) (omega arith) (omega arith) (s.parts 1 (omega arith))) in
-            let od = looked_ok ld (fit_move (omega arith) (omega arith) (omega arith) (s.parts 2 (omega arith))) in
-            let oe = looked_ok le (fit_move (omega arith) (omega arith) (omega arith) (s.parts 3 (omega arith))) in
-            j.unfit ok oa ob od oe (above_is k r c v w small la lb ld le oa ob od oe ∙ ap pair_of s.pair_is);
-      }
+              parts = λ i b. fit_move refl (sym (place i)) refl refl (j.0 i b);
+            },
+        j.2 ∙ sym j.1,
+      )
 
   -- ---- the whole square
 
-  pub looked_whole : {h g l : ℕ} {a b d e t : Found} → Sized L h → 0 < A.rows → 0 < A.columns → g < 4294967296
-      → Looked A L h 0 g l 0 0 a → Looked A L h 1 g l 0 1 b → Looked A L h 2 g l 1 0 d → Looked A L h 3 g l 1 1 e
-      → Joined a b d e g l t → Wholly A L h g l t.ok
-  looked_whole {h} {g} {l} s p q small la lb ld le j = record {
-    fits = λ ok.
-        let u = j.quarters ok in
-        let w = bounds_at A (suc h) 0 0 in
-        let x : bounds_at A (suc h) 0 0 ≡ span g l =
-        pair_real g l (A.level (0 * 2 ^ suc h) (0 * 2 ^ suc h)) w (sym (above_is h 0 0 g l small la lb ld le u.0 u.1 u.2 u.3) ∙ j.makes ok)
-        (corner_inside A (suc h) 0 0 (omega arith) (omega arith)) in
-        record {
-          lengths = s;
-          pair_is = ap (λ (n : ℕ). bounds_at A n 0 0) (one-add h) ∙ x;
-          parts = λ i n.
-              fit_move (omega arith) (omega arith) (omega arith)
-              (four 0 0 0 refl refl refl refl (la.fits u.0) (lb.fits u.1) (ld.fits u.2) (le.fits u.3) i n);
-        };
-    unfit = λ ok w.
-        let oa = looked_ok la (w.parts 0 (omega arith)) in
-        let ob = looked_ok lb (w.parts 1 (omega arith)) in
-        let od = looked_ok ld (w.parts 2 (omega arith)) in
-        let oe = looked_ok le (w.parts 3 (omega arith)) in
-        j.unfit ok oa ob od oe
-        (above_is h 0 0 g l small la lb ld le oa ob od oe ∙ ap (λ (n : ℕ). pair_of (bounds_at A n 0 0)) (sym (one-add h)) ∙ ap pair_of w.pair_is);
+  pub looked_whole : {h : ℕ} {own : Pair} (t : Option Pair) → Sized L h → 0 < A.rows → 0 < A.columns → Quartered A L h 0 own 0 0 t
+      → Wholly A L h own.hi own.lo (is_some t)
+  looked_whole {h} {own} None s p q j = record {
+    fits = λ e. no_bit (sym e);
+    unfit = λ e w.
+        j (λ i b. fit_move refl (omega arith) (omega arith) (omega arith) (w.parts i b))
+        (ap (λ (n : ℕ). pair_of (bounds_at A n 0 0)) (sym (one-add h)) ∙ ap pair_of w.pair_is);
+  }
+  looked_whole {h} {own} (Some x) s p q j = record {
+    fits = λ e. record {
+      lengths = s;
+      pair_is =
+          ap (λ (n : ℕ). bounds_at A n 0 0) (one-add h)
+          ∙ pair_real own.hi own.lo (A.level (0 * 2 ^ suc h) (0 * 2 ^ suc h)) (bounds_at A (suc h) 0 0) j.1 (corner_inside A (suc h) 0 0 (omega arith) (omega arith));
+      parts = λ i b. fit_move refl (omega arith) (omega arith) (omega arith) (j.0 i b);
+    };
+    unfit = λ e. no_bit e;
   }
 
 -- a reader starts at the quarters of the whole square, of depth h + 1
@@ -219,3 +199,18 @@ unfolding Says survey_in level_in
 says-whole f h d n i b y x p q e =
     let w : way_to y x h ≡ i = omega arith in
     rw (d, ne_eqb (greatest_in f) (least_in f) n, w) refl
+
+pub says_first : (f : List ℕ) {d g : ℕ} → d ≡ depth_for (rows_in f) (columns_in f) → 0 < d → g ≡ greatest_in f → (greatest_in f ≡ least_in f → ⊥) → (i : ℕ) → i < 4
+    → Says (survey_in f) (lists_in f) (d - 1) (0 + i) g (0 + i / 2) (0 + i % 2)
+says_first f {d} {g} e p q n i b =
+    let h : depth_for (rows_in f) (columns_in f) ≡ suc (d - 1) = omega arith in
+    let x : 0 + i ≡ i = omega arith in
+    let y : 0 + i / 2 ≡ i / 2 = omega arith in
+    let z : 0 + i % 2 ≡ i % 2 = omega arith in
+    rw (q, x, y, z) (says-whole f (d - 1) h n i b)
+
+-- the same finding, said of other names
+pub wholly_same : {A : Raster} {L : Lists} {h k g m l n : ℕ} {a b : Bool} → h ≡ k → g ≡ m → l ≡ n → a ≡ b → Wholly A L h g l a → Wholly A L k m n b
+wholly_same {A} {L} {h} {k} {g} {m} {l} {n} {a} {b} p q r s w =
+    subst (λ (x : ℕ). Wholly A L x m n b) p
+    (subst (λ (x : ℕ). Wholly A L h x n b) q (subst (λ (x : ℕ). Wholly A L h g x b) r (subst (λ (x : Bool). Wholly A L h g l x) s w)))

@@ -8,7 +8,8 @@ use native.Mathlib.Numerals.{one-add}
 use native.Mathlib.Omega.{arith}
 use lib.Dec.{eqb}
 use lib.ListN.{length}
-use borrow.Author.Tests.{eqb-true, eq-eqb, ne_eqb}
+use borrow.Author.Tests.{eqb-true, eq-eqb}
+use Rattle.std.proofs.Math.Bool.{and_assoc}
 use Rattle.coding.specs.Bits.{ones, ones_before}
 use Rattle.coding.proofs.Laws.Lists.{and_left, and_right}
 use Rattle.survey.specs.Order.{Lists}
@@ -30,23 +31,13 @@ start_next split_marks (suc k) z = start_next split_marks k (4 + 4 * ones_before
 -- ---- the three tests
 
 module _ (L : Lists) (h : ℕ) where
-  pub unsized_marks : (n z : ℕ) → length L.split_marks ≡ n → z ≡ start_of L.split_marks h 0 → (n ≡ z → ⊥) → false ≡ is_sized L h
+  -- as the code makes them, from the start z of the last level with marks
+  pub sized_test : (z : ℕ) → z ≡ start_of L.split_marks h 0
+      → (eqb (length L.split_marks) z && eqb (length L.lmax) (4 + 4 * ones_before L.split_marks z)) && eqb (length L.lmin) (ones L.split_marks) ≡ is_sized L h
   unfolding is_sized
-  unsized_marks n z p q e = rw (p, sym q, ne_eqb n z e)
-
-  pub unsized_max : (n z m : ℕ) → length L.split_marks ≡ n → z ≡ start_of L.split_marks h 0 → n ≡ z → length L.lmax ≡ m
-      → (m ≡ 4 + 4 * ones_before L.split_marks z → ⊥) → false ≡ is_sized L h
-  unfolding is_sized
-  unsized_max n z m p q e l g =
-      let w : start_of L.split_marks (1 + h) 0 ≡ 4 + 4 * ones_before L.split_marks z = rw (one-add, q) (start_next L.split_marks h 0) in
-      rw (w, p, sym q, eq-eqb n z e, l, ne_eqb m (4 + 4 * ones_before L.split_marks z) g)
-
-  pub sized_min : (n z m k : ℕ) → length L.split_marks ≡ n → z ≡ start_of L.split_marks h 0 → n ≡ z → length L.lmax ≡ m → m ≡ 4 + 4 * ones_before L.split_marks z
-      → length L.lmin ≡ k → eqb k (ones L.split_marks) ≡ is_sized L h
-  unfolding is_sized
-  sized_min n z m k p q e l g j =
-      let w : start_of L.split_marks (1 + h) 0 ≡ 4 + 4 * ones_before L.split_marks z = rw (one-add, q) (start_next L.split_marks h 0) in
-      rw (w, p, sym q, eq-eqb n z e, l, eq-eqb m (4 + 4 * ones_before L.split_marks z) g, j)
+  sized_test z e =
+      let w : start_of L.split_marks (1 + h) 0 ≡ 4 + 4 * ones_before L.split_marks z = rw (one-add, e) (start_next L.split_marks h 0) in
+      rw (w, sym e) (and_assoc (eqb (length L.split_marks) z) (eqb (length L.lmax) (4 + 4 * ones_before L.split_marks z)) (eqb (length L.lmin) (ones L.split_marks)))
 
   -- the test is that of the lengths
   pub is_sized_lem : is_sized L h ≡ true → Sized L h

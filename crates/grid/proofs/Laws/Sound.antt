@@ -1,7 +1,7 @@
 -- The file test as a whole: a file is the stored form of some survey exactly if its heading and sections are whole and its squares fit.
 -- Assumes nothing.
 use mathlib.Core.Path.{◌≡◌, refl, sym, ap, ap₂, ◌∙◌, subst}
-use mathlib.Core.Bool.{Bool, true, false, ◌&&◌, not, cond}
+use mathlib.Core.Bool.{Bool, true, false, ◌&&◌, not}
 use mathlib.Core.List.{List, [], ◌∷◌, ◌++◌, append_assoc, append-nil}
 use Prim.Native.Nat.{ℕ, zero, suc, ◌+◌, ◌-◌, ◌≤◌, ◌<◌}
 use native.Mathlib.Numerals.{one-add}
@@ -17,11 +17,11 @@ use Rattle.coding.specs.Sections.{byte_section, bit_section, packed, sections_of
 use Rattle.coding.proofs.Laws.Packing.{Bytes}
 use Rattle.coding.proofs.Laws.Lists.{no_bit, and_left, and_right, and_both}
 use Rattle.coding.proofs.Laws.Items.{length-packed}
-use Rattle.coding.proofs.Laws.Places.{end_starts, end_is}
 use Rattle.coding.proofs.Laws.Sections.{number_word, word_number, is_starts, starts_bits_lem, starts_list_lem, bits_front, bits_after, list_front, list_after, length-bit_section, bytes_drop}
 use Rattle.survey.specs.Level.{turned, is_level, lowest_level, highest_level}
 use Rattle.survey.specs.Raster.{Raster, is_real, in_limits, side_limit}
 use Rattle.survey.specs.Sides.{depth_for, depth_of, most_entries}
+use Rattle.survey.specs.Standing.{Sized}
 use Rattle.survey.specs.Square.{Bounds, none, span, bounds_if, bounds_at, bounds_of, greatest_or, least_or, is_uneven}
 use Rattle.survey.specs.Order.{Lists, no_lists}
 use Rattle.survey.specs.Tree.{lists_from, lists_of}
@@ -33,7 +33,7 @@ use Rattle.survey.proofs.Laws.Sides.{side_covers, block_zero}
 use Rattle.survey.proofs.Laws.Lengths.{Short, lists_short, lists_even}
 use Rattle.survey.proofs.Laws.Squares.{Inside, Proper, proper, some_bounds}
 use Rattle.survey.proofs.Laws.Accepting.{stored_accepted, file_survey, file_stored}
-use Rattle.grid.specs.Test.{is_headed, Parted, Whole, Wholly, is_short}
+use Rattle.grid.specs.Test.{is_headed, Parted, IsParted, AreLists, end_of_marks, end_of_max, Whole, Wholly, is_short}
 use Rattle.grid.proofs.Laws.Claims.{lists_tested, tested_lists}
 
 -- ---- the heading
@@ -111,13 +111,6 @@ headed_file f b h =
     ∙ cut f 0 4 refl)
 
 -- ---- the sections
-
--- where T ends, and where Lmax does
-abbrev pub end_of_marks : List ℕ → ℕ
-end_of_marks f = 20 + length (bit_section (bits_at (drop 20 f)))
-
-abbrev pub end_of_max : List ℕ → ℕ
-end_of_max f = end_of_marks f + length (packed (list_at (drop (end_of_marks f) f)))
 
 -- three sections one behind the other, with nothing behind them
 module _ (f : List ℕ) (L : Lists) (e : drop 20 f ≡ list_sections L) where
@@ -470,6 +463,11 @@ module _ {f : List ℕ} {depth top low : ℕ} (u : Uneven f depth top low) where
       (le-leb min (most_entries (depth - 1)) (omega (arith, w.min_short)))))
       ∙ s))
 
+  pub refused_unsized : 0 < depth → (Sized (lists_in f) (depth - 1) → ⊥) → false ≡ is_file f
+  refused_unsized z n =
+      let k : depth ≡ suc (depth - 1) = omega arith in
+      refused f (λ e. n (file_whole f e (depth - 1) (depth_is (suc (depth - 1)) k) uneven).lengths)
+
   pub found_whole : {a b : ℕ} {ok : Bool} → 0 < depth → Parted f a b → Bytes f → Wholly (survey_in f) (lists_in f) (depth - 1) top low ok → ok ≡ is_file f
   found_whole {a} {b} {ok} z p y w =
       let k : depth ≡ suc (depth - 1) = omega arith in
@@ -480,40 +478,67 @@ module _ {f : List ℕ} {depth top low : ℕ} (u : Uneven f depth top low) where
       case true w k = sym (whole_file f a b p y (depth - 1) (sym u.side ∙ k) uneven (w.fits refl))
       case false w k = refused f (λ e. w.unfit refl (file_whole f e (depth - 1) (depth_is (suc (depth - 1)) k) uneven))
 
--- ---- where its sections end
+-- ---- the sections that are read one behind the other
 
-abbrev pub list_end : List ℕ → ℕ → ℕ
-list_end f n = cond (starts_list (drop n f)) (n + length (packed (list_at (drop n f)))) 0
+module _ (f : List ℕ) where
+  -- they part the file, if nothing is behind them
+  pub read_parted : is_headed f ≡ true → starts_bits (drop 20 f) ≡ true → {s t : List ℕ} → s ≡ after_bits (drop 20 f) → starts_list s ≡ true
+      → t ≡ drop (length (packed (list_at s))) s → starts_list t ≡ true → length (drop (length (packed (list_at t))) t) ≡ 0 → IsParted f
+  unfolding after_bits
+  read_parted h m {s} {t} p x q n z =
+      let w = starts_bits_lem (drop 20 f) m in
+      let e : s ≡ drop (end_of_marks f) f =
+      p ∙ ap (λ (k : ℕ). drop k (drop 20 f)) (sym w.size) ∙ drop-drop (length (bit_section (bits_at (drop 20 f)))) 20 f in
+      let g : t ≡ drop (end_of_max f) f =
+      q ∙ ap (λ (r : List ℕ). drop (length (packed (list_at r))) r) e ∙ drop-drop (length (packed (list_at (drop (end_of_marks f) f)))) (end_of_marks f) f in
+      let l = packed (list_at (drop (end_of_max f) f)) in
+      let k : starts_list (drop (end_of_max f) f) ≡ true = ap starts_list (sym g) ∙ n in
+      record {
+        headed = h;
+        marks = m;
+        marks_end = refl;
+        max = ap starts_list (sym e) ∙ x;
+        max_end = refl;
+        min = k;
+        min_end =
+            omega (
+              arith,
+              ap (λ (r : List ℕ). length (drop (length (packed (list_at r))) r)) (sym g),
+              z,
+              ap length (starts_list_lem (drop (end_of_max f) f) k).is,
+              length-append l (drop (length l) (drop (end_of_max f) f)),
+              length-drop (end_of_max f) f,
+              length-packed (list_at (drop (end_of_max f) f)),
+            );
+      }
 
--- those of an accepted file are found
-module _ (f : List ℕ) (e : is_file f ≡ true) {a : ℕ} (p : a ≡ cond (starts_bits (drop 20 f)) (end_of_marks f) 0) where
-  pub marks_found : a ≡ end_of_marks f
-  marks_found = p ∙ ap (λ (t : Bool). cond t (end_of_marks f) 0) (file_parted f e).marks
+  -- and those that part it are read
+  pub after_marks_is : IsParted f → {s : List ℕ} → s ≡ after_bits (drop 20 f) → s ≡ drop (end_of_marks f) f
+  unfolding after_bits
+  after_marks_is p e =
+      let w = starts_bits_lem (drop 20 f) p.marks in
+      e ∙ ap (λ (k : ℕ). drop k (drop 20 f)) (sym w.size) ∙ drop-drop (length (bit_section (bits_at (drop 20 f)))) 20 f
 
-  pub max_found : {b : ℕ} → b ≡ list_end f a → b ≡ end_of_max f
-  max_found q = q ∙ ap (list_end f) marks_found ∙ ap (λ (t : Bool). cond t (end_of_max f) 0) (file_parted f e).max
+  pub after_max_is : {s t : List ℕ} → s ≡ drop (end_of_marks f) f → t ≡ drop (length (packed (list_at s))) s → t ≡ drop (end_of_max f) f
+  after_max_is e q =
+      q ∙ ap (λ (r : List ℕ). drop (length (packed (list_at r))) r) e ∙ drop-drop (length (packed (list_at (drop (end_of_marks f) f)))) (end_of_marks f) f
 
-  pub min_found : {b c : ℕ} → b ≡ list_end f a → c ≡ list_end f b → c ≡ length f
-  min_found q r =
-      r ∙ ap (list_end f) (max_found q) ∙ ap (λ (t : Bool). cond t (end_of_max f + length (packed (list_at (drop (end_of_max f) f)))) 0) (file_parted f e).min
-      ∙ sym (file_parted f e).min_end
+  pub nothing_left : IsParted f → {t r : List ℕ} → t ≡ drop (end_of_max f) f → r ≡ drop (length (packed (list_at t))) t → length r ≡ 0
+  nothing_left p e q =
+      let l = packed (list_at (drop (end_of_max f) f)) in
+      ap length (q ∙ ap (λ (r : List ℕ). drop (length (packed (list_at r))) r) e)
+      ∙ omega (arith, length-drop (length l) (drop (end_of_max f) f), length-drop (end_of_max f) f, p.min_end)
 
--- and sections that are found part the file
-pub found_parted : {f : List ℕ} {a b c : ℕ} → is_headed f ≡ true → a ≡ cond (starts_bits (drop 20 f)) (end_of_marks f) 0 → (a ≡ 0 → ⊥) → b ≡ list_end f a → (b ≡ 0 → ⊥)
-    → c ≡ list_end f b → c ≡ length f → Parted f a b
-found_parted {f} {a} {b} {c} h p i q j r k =
-    let m = end_starts (starts_bits (drop 20 f)) (end_of_marks f) a p i in
-    let x = end_starts (starts_list (drop a f)) (a + length (packed (list_at (drop a f)))) b q j in
-    let n = end_starts (starts_list (drop b f)) (b + length (packed (list_at (drop b f)))) c r (λ z. omega (arith, (is_headed_lem f h).long)) in
-    record {
-      headed = h;
-      marks = m;
-      marks_end = end_is (starts_bits (drop 20 f)) (end_of_marks f) a p m;
-      max = x;
-      max_end = end_is (starts_list (drop a f)) (a + length (packed (list_at (drop a f)))) b q x;
-      min = n;
-      min_end = sym k ∙ end_is (starts_list (drop b f)) (b + length (packed (list_at (drop b f)))) c r n;
-    }
+  -- what is read is the file's lists
+  pub are_lists : IsParted f → {split : List Bool} {s t max min : List ℕ} → split ≡ bits_at (drop 20 f) → s ≡ drop (end_of_marks f) f → max ≡ list_at s
+      → t ≡ drop (end_of_max f) f → min ≡ list_at t → AreLists f split max min
+  are_lists p a e x g n =
+      let l = parted_lists f (end_of_marks f) (end_of_max f) p in
+      record {
+        split_is = a ∙ sym (ap (λ (L : Lists). L.split_marks) l);
+        max_is = x ∙ ap list_at e ∙ sym (ap (λ (L : Lists). L.lmax) l);
+        min_is = n ∙ ap list_at g ∙ sym (ap (λ (L : Lists). L.lmin) l);
+      }
 
 -- of an even survey
 pub found_even : {f : List ℕ} {a b top low : ℕ} → Parted f a b → Bytes f → top ≡ greatest_in f → low ≡ least_in f → top ≡ low → eqb (length f) 64 ≡ is_file f

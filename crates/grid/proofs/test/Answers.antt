@@ -15,7 +15,7 @@ use Rattle.survey.specs.Calls.{Tests, test_refusal}
 use Rattle.survey.proofs.Laws.Levels.{lowered_fits}
 use Rattle.grid.proofs.Laws.Sound.{is_headed_lem, file_headed, greatest_is, least_is}
 use Rattle.grid.proofs.test.Goals as goal
-use Rattle.grid.proofs.test.Goals.{Then-is_file}
+use Rattle.grid.proofs.test.Goals.{Else-not-is_file}
 
 -- what the function gives back of an unsigned level
 given : {v w : ℕ} {g : ℤ} → v < 4294967296 → g ≡ lowered v → v ≡ w → to_z w32 (of_z w32 g) ≡ lowered w
@@ -41,26 +41,26 @@ unaccepted f e = record { answer = rw e refl }
 long : (f : List ℕ) → is_file f ≡ true → 20 ≤ length f
 long f e = (is_headed_lem f (file_headed f e)).long
 
-is_it : (c : Then-is_file) → is_file c.args.f.now ≡ true
-is_it c = sym c.is_file.ensures ∙ c.if-is_file.true
+is_it : (c : Else-not-is_file) → is_file c.args.f.now ≡ true
+is_it c = sym c.is_file.ensures ∙ c.if-not-is_file.false
 
 pub get-requires : goal.get-requires
 get-requires c = omega (arith, long _ (is_it c))
 
-pub get-requires-then-is_file : goal.get-requires-then-is_file
-get-requires-then-is_file c = omega (arith, long _ (is_it (goal.at.get-requires-then-is_file c).Then-is_file))
+pub get-requires-2 : goal.get-requires-2
+get-requires-2 c = omega (arith, long _ (is_it (goal.at.get-requires-2 c).Else-not-is_file))
 
-pub get-requires-then-is_file-2 : goal.get-requires-then-is_file-2
-get-requires-then-is_file-2 c = omega (arith, long _ (is_it (goal.at.get-requires-then-is_file-2 c).Then-is_file))
+pub get-requires-3 : goal.get-requires-3
+get-requires-3 c = omega (arith, long _ (is_it (goal.at.get-requires-3 c).Else-not-is_file))
 
-pub get-requires-then-is_file-3 : goal.get-requires-then-is_file-3
-get-requires-then-is_file-3 c = omega (arith, long _ (is_it (goal.at.get-requires-then-is_file-3 c).Then-is_file))
+pub get-requires-4 : goal.get-requires-4
+get-requires-4 c = omega (arith, long _ (is_it (goal.at.get-requires-4 c).Else-not-is_file))
 
-pub returns-then-is_file : goal.returns-then-is_file
-returns-then-is_file c =
-    let e = is_it (goal.at.returns-then-is_file c).Then-is_file in
-    accepted _ e c.get-then-is_file-2.ensures c.get-then-is_file-3.ensures (given (omega arith) c.lower.ensures (c.turn-top.ensures ∙ ap turned c.get.ensures))
-    (given (omega arith) c.lower-then-is_file.ensures (c.turn-low.ensures ∙ ap turned c.get-then-is_file.ensures))
+pub returns-then-not-is_file : goal.returns-then-not-is_file
+returns-then-not-is_file c = unaccepted _ (sym c.is_file.ensures ∙ c.if-not-is_file.true)
 
 pub returns : goal.returns
-returns c = unaccepted _ (sym c.is_file.ensures ∙ c.if-is_file.false)
+returns c =
+    accepted _ (is_it (goal.at.returns c).Else-not-is_file) c.get.ensures c.get-2.ensures
+    (given (omega arith) c.lower.ensures (c.turn.ensures ∙ ap turned c.get-3.ensures))
+    (given (omega arith) c.lower-2.ensures (c.turn-2.ensures ∙ ap turned c.get-4.ensures))

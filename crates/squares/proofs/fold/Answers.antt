@@ -1,4 +1,4 @@
--- `squares::fold` meets its contract: what `larger` and `smaller` ensure is what the pair above has.
+-- `squares::fold` meets its contract: the greatest and the least that it takes are those of the pair above.
 use Rattle.squares.specs.Pair.{above_of}
 use Rattle.squares.proofs.fold.Goals as goal
 

@@ -1,20 +1,14 @@
--- `coding::bits::make_index` meets its contract. The loop's invariant: the counts stored so far are right, and the sum is the ones before the
--- next block, if it starts within the bytes of the bits.
+-- `coding::bits::make_index` meets its contract. The loop's invariant: the counts stored so far are right, and the sum is the ones before the next block.
 use mathlib.Core.Path.{◌≡◌}
 use mathlib.Core.List.{List}
-use Prim.Native.Nat.{ℕ, ◌-◌, ◌*◌, ◌≤◌, ◌<◌}
-use lib.ListN.{length, get_or}
+use Prim.Native.Nat.{ℕ, ◌*◌, ◌<◌}
+use lib.ListN.{get_or}
 use Rattle.coding.specs.Places.{ones_in}
 use Rattle.coding.proofs.bits.make_index.Given as goal
 
-pub record Inv (s : List ℕ) (e m : ℕ) (index : List ℕ) (sum b : ℕ) : Type 0 where
-  pub count : length index ≡ m
-  pub within : b ≤ m
-  pub sums : 64 * b ≤ e → sum ≡ ones_in s (64 * b)
+pub record Inv (s index : List ℕ) (sum b : ℕ) : Type 0 where
+  pub sums : sum ≡ ones_in s (64 * b)
   pub stored : (k : ℕ) → k < b → get_or index k 0 ≡ ones_in s (64 * k)
 
 abbrev pub invariant-loop-b : goal.invariant-loop-b
-invariant-loop-b l = Inv l.s l.e (length l.initial.index) l.index l.sum l.b
-
-abbrev pub decreases-loop-b : goal.decreases-loop-b
-decreases-loop-b l = length l.initial.index - l.b
+invariant-loop-b l = Inv l.s l.index l.sum l.b

@@ -8,11 +8,6 @@ use lib.Count as Count
 use lib.Pow.{pow_mono, pow_pos}
 use Rattle.coding.proofs.bits.ones_below.Goals as goal
 
-pub overflow_sub-result : goal.overflow_sub-result
-overflow_sub-result c =
-    let e : 2 ^ c.args.k ≤ 128 = pow_mono {j = 7} (omega arith) in
-    omega (arith, pow_pos c.args.k)
-
 module _ (x k : ℕ) (h : k < 8) where
   masked : Count.ones (bit_and x (1 * 2 ^ k % 256 - 1)) ≡ Count.ones (x % 2 ^ k)
   masked =
@@ -22,9 +17,6 @@ module _ (x k : ℕ) (h : k < 8) where
 
   few : Count.ones (bit_and x (1 * 2 ^ k % 256 - 1)) ≤ 8
   few = omega (arith, masked, Count.ones-le k (x % 2 ^ k) (mod-lt x (pow_pos k)))
-
-pub overflow_cast-result-2 : goal.overflow_cast-result-2
-overflow_cast-result-2 c = omega (arith, few c.args.x c.args.k c.requires)
 
 pub returns : goal.returns
 returns c = (masked c.args.x c.args.k c.requires, few c.args.x c.args.k c.requires)

@@ -1,19 +1,19 @@
--- `coding::word::put` meets its contract: four stores, one after the other, are the four bytes of the number laid from `at` on.
-use native.Mathlib.Numerals.{towards_suc}
+-- `coding::word::put` meets its contract: the four bytes copied over those at `at` are a run of stores, and the highest needs no remainder.
+use mathlib.Core.Path.{◌≡◌, refl, ◌∙◌, ap}
+use Prim.Native.Nat.{◌+◌, ◌/◌, ◌%◌}
 use native.Mathlib.Omega.{arith}
-use lib.ListN.{length-set}
+use lib.ListN.{length}
+use lib.Seq.{sets}
 use Rattle.coding.specs.Bytes.{word}
+use Rattle.coding.proofs.Laws.Lay.{part_at}
 use Rattle.coding.proofs.word.put.Goals as goal
-
-pub bounds-out-at-2 : goal.bounds-out-at-2
-bounds-out-at-2 c = simp length-set (omega arith)
-
-pub bounds-out-at-3 : goal.bounds-out-at-3
-bounds-out-at-3 c = simp length-set (omega arith)
-
-pub bounds-out-at-4 : goal.bounds-out-at-4
-bounds-out-at-4 c = simp length-set (omega arith)
 
 pub returns : goal.returns
 unfolding word
-returns c = simp towards_suc
+returns c =
+    let a = c.args in
+    let s = c.copy_from_slice in
+    let top : a.v / 16777216 % 256 ≡ a.v / 16777216 = omega arith in
+    let bytes : s.new.self ≡ word a.v = s.ensures.after ∙ c.to_le_bytes.ensures ∙ rw top refl in
+    part_at a.at (a.at + 4) a.out.now s.new.self (omega arith) c.requires (ap length bytes ∙ omega arith)
+    ∙ ap (sets a.out.now a.at) bytes

@@ -1,9 +1,12 @@
 -- `coding::write::list` meets its contract: five sections, each laid where the one before ended, are the packed list.
+use mathlib.Core.Path.{◌≡◌, refl, sym, ◌∙◌, subst}
+use mathlib.Core.Bool.{Bool, true, false}
 use mathlib.Core.List.{List}
 use Prim.Native.Nat.{ℕ, ◌+◌, ◌/◌, ◌≤◌}
 use native.Mathlib.Omega.{arith}
-use Rattle.coding.specs.Lanes.{Counts, first_part, more_part, second_part, again_part, third_part}
-use Rattle.coding.proofs.Laws.Items.{items_long, count_all, length-packed}
+use Rattle.coding.specs.Lanes.{items_of, WrittenAt, Counts, first_part, more_part, second_part, again_part, third_part}
+use Rattle.coding.specs.declared.lanes.part.Part.{Part}
+use Rattle.coding.proofs.Laws.Items.{items_same, items_long, count_all, length-packed}
 use Rattle.coding.proofs.Laws.Written.{five_laid}
 use Rattle.coding.proofs.write.list.Goals as goal
 
@@ -11,62 +14,58 @@ use Rattle.coding.proofs.write.list.Goals as goal
 room : (l : List ℕ) {n n2 n3 size : ℕ} → Counts l n n2 n3 size → 20 + n + (n + 7) / 8 + n2 + (n2 + 7) / 8 + n3 ≤ size
 room l p = omega (arith, length-packed l, p.all, p.two, p.three, p.fits)
 
-pub section_at-a-requires : goal.section_at-a-requires
-section_at-a-requires c =
+-- a part of the code is the part that the definitions name
+named : (b : Bool) (p q : Part) (l o new : List ℕ) (at : ℕ) → p.bits ≡ q.bits → p.from ≡ q.from → p.by ≡ q.by
+    → WrittenAt b (items_of p l) o at new → WrittenAt b (items_of q l) o at new
+named b p q l o new at h f y w = subst (λ m. WrittenAt b m o at new) (items_same p q h f y l) w
+
+pub invariant_of-first-2 : goal.invariant_of-first-2
+invariant_of-first-2 c =
     let l = c.args.numbers.now in
-    (omega arith, omega (arith, items_long first_part l, count_all l, c.requires.all), omega (arith, room l c.requires))
+    record { counted = c.requires.all ∙ sym (count_all l) ∙ sym (items_long _ l) }
+
+pub invariant_of-more-2 : goal.invariant_of-more-2
+invariant_of-more-2 c =
+    let l = c.args.numbers.now in
+    record { counted = c.requires.all ∙ sym (count_all l) ∙ sym (items_long _ l) }
+
+pub invariant_of-second-2 : goal.invariant_of-second-2
+invariant_of-second-2 c = record { counted = c.requires.two ∙ sym (items_long _ c.args.numbers.now) }
+
+pub invariant_of-again-2 : goal.invariant_of-again-2
+invariant_of-again-2 c = record { counted = c.requires.two ∙ sym (items_long _ c.args.numbers.now) }
+
+pub invariant_of-third-2 : goal.invariant_of-third-2
+invariant_of-third-2 c = record { counted = c.requires.three ∙ sym (items_long _ c.args.numbers.now) }
+
+pub section_at-a-requires : goal.section_at-a-requires
+section_at-a-requires c = omega (arith, room c.args.numbers.now c.requires)
 
 pub section_at-b-requires : goal.section_at-b-requires
-section_at-b-requires c =
-    let l = c.args.numbers.now in
-    let e = c.section_at-a in
-    (omega arith, omega (arith, items_long more_part l, count_all l, c.requires.all), omega (arith, room l c.requires, e.ensures.0, e.auto.out))
+section_at-b-requires c = omega (arith, room c.args.numbers.now c.requires)
 
 pub section_at-c-requires : goal.section_at-c-requires
-section_at-c-requires c =
-    let l = c.args.numbers.now in
-    let e = c.section_at-a in
-    let e2 = c.section_at-b in (
-      omega arith,
-      omega (arith, items_long second_part l, c.requires.two),
-      omega (arith, room l c.requires, e.ensures.0, e.auto.out, e2.ensures.0, e2.auto.out),
-    )
+section_at-c-requires c = omega (arith, room c.args.numbers.now c.requires)
 
 pub section_at-d-requires : goal.section_at-d-requires
-section_at-d-requires c =
-    let l = c.args.numbers.now in
-    let e = c.section_at-a in
-    let e2 = c.section_at-b in
-    let e3 = c.section_at-c in (
-      omega arith,
-      omega (arith, items_long again_part l, c.requires.two),
-      omega (arith, room l c.requires, e.ensures.0, e.auto.out, e2.ensures.0, e2.auto.out, e3.ensures.0, e3.auto.out),
-    )
+section_at-d-requires c = omega (arith, room c.args.numbers.now c.requires)
 
 pub section_at-requires : goal.section_at-requires
-section_at-requires c =
-    let l = c.args.numbers.now in
-    let e = c.section_at-a in
-    let e2 = c.section_at-b in
-    let e3 = c.section_at-c in
-    let e4 = c.section_at-d in (
-      omega arith,
-      omega (arith, items_long third_part l, c.requires.three),
-      omega (arith, room l c.requires, e.ensures.0, e.auto.out, e2.ensures.0, e2.auto.out, e3.ensures.0, e3.auto.out, e4.ensures.0, e4.auto.out),
-    )
+section_at-requires c = omega (arith, room c.args.numbers.now c.requires)
 
 pub returns : goal.returns
 returns c =
+    let l = c.args.numbers.now in
     let p = c.requires in
     let w1 = c.section_at-a in
     let w2 = c.section_at-b in
     let w3 = c.section_at-c in
     let w4 = c.section_at-d in
     let w5 = c.section_at in
-    five_laid c.args.numbers.now p.range c.args.out.now w1.new.out w2.new.out w3.new.out w4.new.out w5.new.out
+    five_laid l p.range c.args.out.now w1.new.out w2.new.out w3.new.out w4.new.out w5.new.out
     0 w1.result w2.result w3.result w4.result
-    w1.ensures.1 (omega (arith, w1.ensures.0, p.all))
-    w2.ensures.1 (omega (arith, w2.ensures.0, p.all))
-    w3.ensures.1 (omega (arith, w3.ensures.0, p.two))
-    w4.ensures.1 (omega (arith, w4.ensures.0, p.two))
-    w5.ensures.1
+    (named false _ first_part l _ _ _ refl refl refl w1.ensures.written) (omega arith)
+    (named true _ more_part l _ _ _ refl refl refl w2.ensures.written) (omega arith)
+    (named false _ second_part l _ _ _ refl refl refl w3.ensures.written) (omega arith)
+    (named true _ again_part l _ _ _ refl refl refl w4.ensures.written) (omega arith)
+    (named false _ third_part l _ _ _ refl refl refl w5.ensures.written)

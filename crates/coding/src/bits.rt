@@ -1,5 +1,5 @@
 // Bits in bytes, the ones among them, and running counts of ones.
-ghost use Rattle.std.specs.Prelude.{◌≡◌, true, false, ◌+◌, ◌*◌, ◌/◌, ◌%◌, ◌^◌, ◌≤◌, ◌<◌, eqb, length, get_or, take};
+ghost use Rattle.std.specs.Prelude.{◌≡◌, false, ◌+◌, ◌*◌, ◌/◌, ◌%◌, ◌^◌, ◌≤◌, ◌<◌, eqb, length, get_or, take};
 ghost use Rattle.std.specs.Int.Count as Count;
 ghost use Rattle.coding.specs.Bits.{pack_bits, ones, ones_before};
 ghost use Rattle.coding.specs.Sections.{same};
@@ -7,7 +7,8 @@ ghost use Rattle.coding.specs.Places.{bits_of, ones_in, Index};
 
 use std::marker::Model;
 
-// The first `count` bits of some bytes, seen as the list of them. `index` has the ones before each block of 512 bits; it may end early, or have none.
+// The first `count` bits of some bytes, seen as the list of them: bits may end within a byte, so the bytes do not tell how many. `index` has the ones
+// before each block of 512 bits; it may end early, or have none.
 #[derive(Drop)]
 pub struct Bits<'a> {
     pub bytes: &'a [u8],
@@ -44,21 +45,16 @@ impl<'a> Bits<'a> {
         ensures { result ≡ self.entry }
     {
         let blocks = self.blocks().min(index.len());
-        let Bits { bytes, count, .. } = self;
         let index = &mut index[..blocks];
-        make_index(bytes, count, index);
-        Bits {
-            bytes,
-            count,
-            index,
-        }
+        make_index(self.bytes, self.count, index);
+        Bits { index, ..self }
     }
 
     // How many running counts there are, one for each block of 512 bits.
     pub(crate) fn blocks(&self) -> usize
-        ensures { (result ≡ (length self.now + 511) / 512) × (result < 2 ^ 32) }
+        ensures { result ≡ (length self.now + 511) / 512 }
     {
-        (self.count + 511) / 512
+        self.len().div_ceil(512)
     }
 
     pub fn len(&self) -> usize
@@ -110,23 +106,23 @@ impl<'a> Bits<'a> {
     }
 }
 
-// Makes the running counts of the first bits, as many as `index` has room for.
-fn make_index(s: &[u8], n: usize, index: &mut [u32])
+// Makes the running counts of the first n bits, as many as `index` has room for. Said of bytes and a count, since it makes the third part of `Bits`, which
+// no clause on `Bits` can name.
+pub fn make_index(s: &[u8], n: usize, index: &mut [u32])
     requires n_bound { (n ≤ 8 * length s.now) × (n < 2 ^ 32) }
     requires index_len { 512 * length index.old < n + 512 }
     ensures { Index s.now n index.new }
 {
     let mut sum = 0;
-    // By its place, since a proof knows nothing of the elements behind `iter_mut`.
-    for b in 0..index.len() {
-        index[b] = sum as u32;
+    for (b, count) in index.iter_mut().enumerate() {
+        *count = sum as u32;
         let from = 64 * b;
         let to = (from + 64).min(s.len());
         sum += ones_in(&s[from..to]);
     }
 }
 
-// The bit i of the first n; beyond them, no.
+// The bit i of the first n; beyond them, no. It stays beside the method since it asks less, of a count of any size.
 pub fn get(s: &[u8], n: usize, i: usize) -> bool
     requires { n ≤ 8 * length s.now }
     ensures { result ≡ get_or (bits_of s.now n) i false }
@@ -155,25 +151,18 @@ fn ones_in(s: &[u8]) -> usize
     requires { length s.now < 2 ^ 32 }
     ensures { (result ≡ ones_in s.now (length s.now)) × (result ≤ 8 * length s.now) }
 {
-    let words = s.len() / 8;
+    let (words, rest) = s.as_chunks::<8>();
     let mut sum = 0;
-    for i in 0..words {
-        sum += ones_of_eight(&s[8 * i..8 * i + 8]);
+    for word in words {
+        sum += u64::from_le_bytes(*word).count_ones() as usize;
     }
-    for x in &s[8 * words..] {
+    for x in rest {
         sum += x.count_ones() as usize;
     }
     sum
 }
 
-fn ones_of_eight(s: &[u8]) -> usize
-    requires { length s.now ≡ 8 }
-    ensures { (result ≡ ones_in s.now 8) × (result ≤ 64) }
-{
-    u64::from_le_bytes([s[0], s[1], s[2], s[3], s[4], s[5], s[6], s[7]]).count_ones() as usize
-}
-
-// Whether the unused bits of the bytes that hold n bits are 0.
+// Whether the unused bits of the bytes that hold n bits are 0. Said of bytes and a count, since it is asked before there are `Bits` of them.
 pub fn clear_behind(s: &[u8], n: usize) -> bool
     requires { (n + 7) / 8 ≤ length s.now }
     ensures { result ≡ same (pack_bits (bits_of s.now n)) (take ((n + 7) / 8) s.now) }

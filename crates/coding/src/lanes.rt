@@ -1,6 +1,6 @@
-// Sections written one entry at a time, in lanes side by side: lane d starts at starts[d], and cur[d] elements of it are written.
-ghost use Rattle.std.specs.Prelude.{◌≡◌, true, false, [], ◌∷◌, ◌+◌, ◌^◌, ◌<◌, length, set, slice_index};
-ghost use Rattle.coding.specs.Bits.{bit, digits};
+// Sections written one entry at a time, in lanes side by side.
+ghost use Rattle.std.specs.Prelude.{◌≡◌, ◌+◌, ◌^◌, ◌<◌, length, set, slice_index};
+ghost use Rattle.coding.specs.Bits.{digits};
 ghost use Rattle.coding.specs.Lanes.{item_of, only, HasRoom, Puts, total, Started};
 
 mod part;
@@ -41,31 +41,6 @@ pub struct Lanes<'a> {
 }
 
 impl Lanes<'_> {
-    // Puts a byte to lane d.
-    fn put_byte(&mut self, d: usize, v: u8)
-        requires d_in_bounds { d < length self.old.cur.now }
-        requires room { HasRoom false self.old (only d (v ∷ [])) }
-        ensures { Puts false self.old self.new (only d (v ∷ [])) }
-    {
-        let n = self.cur[d];
-        let at = place(self.starts, d, n);
-        self.out[at] = v;
-        self.cur[d] = n + 1;
-    }
-
-    // Puts a bit to lane d.
-    fn put_bit(&mut self, d: usize, v: bool)
-        requires d_in_bounds { d < length self.old.cur.now }
-        requires room { HasRoom true self.old (only d (bit v ∷ [])) }
-        ensures { Puts true self.old self.new (only d (bit v ∷ [])) }
-    {
-        let n = self.cur[d];
-        let at = place(self.starts, d, n);
-        let q = at / 8;
-        self.out[q] = mend(self.out[q], at % 8, v);
-        self.cur[d] = n + 1;
-    }
-
     // Puts what the part has of the number v to lane d.
     pub fn put(&mut self, part: Part, d: usize, v: u32)
         requires d_in_bounds { d < length self.old.cur.now }
@@ -75,11 +50,15 @@ impl Lanes<'_> {
         if v < part.from {
             return;
         }
+        let n = self.cur[d];
+        let at = place(self.starts, d, n);
         if part.bits {
-            self.put_bit(d, part.by <= v);
+            let q = at / 8;
+            self.out[q] = mend(self.out[q], at % 8, part.by <= v);
         } else {
-            self.put_byte(d, (v / part.by % 256) as u8);
+            self.out[at] = (v / part.by % 256) as u8;
         }
+        self.cur[d] = n + 1;
     }
 }
 

@@ -37,7 +37,10 @@ impl From<Result<usize, Refusal>> for Amount {
             Ok(amount) => Amount { refusal: 0, amount },
             Err(why) => Amount {
                 refusal: why.number(),
-                amount: why.room(),
+                amount: match why {
+                    Refusal::Room(need) => need,
+                    _ => 0,
+                },
             },
         }
     }
@@ -78,7 +81,7 @@ pub fn pack(numbers: &[u32], out: &mut [u8]) -> Result<usize, Refusal>
     }
     let n2 = write::count_from(numbers, 256);
     let n3 = write::count_from(numbers, 65536);
-    let need = 20 + n + (n + 7) / 8 + n2 + (n2 + 7) / 8 + n3;
+    let need = 20 + n + n.div_ceil(8) + n2 + n2.div_ceil(8) + n3;
     if out.len() < need {
         return Err(Refusal::Room(need));
     }

@@ -50,21 +50,12 @@ impl<'a> Sections<'a> {
     pub fn indexed(self, index: &'a mut [u32]) -> Sections<'a>
         ensures { result ≡ self.entry }
     {
-        let Sections {
-            first,
-            more,
-            second,
-            again,
-            third,
-        } = self;
-        let blocks = more.blocks().min(index.len());
+        let blocks = self.more.blocks().min(index.len());
         let (front, back) = index.split_at_mut(blocks);
         Sections {
-            first,
-            more: more.indexed(front),
-            second,
-            again: again.indexed(back),
-            third,
+            more: self.more.indexed(front),
+            again: self.again.indexed(back),
+            ..self
         }
     }
 
@@ -86,14 +77,15 @@ impl<'a> Sections<'a> {
     {
         let low = byte(self.first, i);
         if self.more.get(i) {
-            low + 256 * self.second(self.more.ones_before(i))
+            low + 256 * self.upper(self.more.ones_before(i))
         } else {
             low
         }
     }
 
-    // The number that the second and third bytes of an entry make.
-    fn second(&self, j: usize) -> u32
+    // The number that the second and third bytes of an entry make. It goes on like `entry`, but one function of both would take a closure for what follows,
+    // and a bound on it.
+    fn upper(&self, j: usize) -> u32
         ensures { (result ≡ second_of self.now j) × (result < 65536) }
     {
         let low = byte(self.second, j);
@@ -141,9 +133,8 @@ impl<'a> Coded<'a> {
     pub fn indexed(self, index: &'a mut [u32]) -> Coded<'a>
         ensures { result ≡ self.entry }
     {
-        let Coded { sections } = self;
         Coded {
-            sections: sections.indexed(index),
+            sections: self.sections.indexed(index),
         }
     }
 
@@ -165,10 +156,7 @@ impl<'a> Coded<'a> {
 fn byte(s: &[u8], i: usize) -> u32
     ensures { (result ≡ get_or s.now i 0) × (result < 256) }
 {
-    match s.get(i) {
-        Some(x) => *x as u32,
-        None => 0,
-    }
+    s.get(i).copied().unwrap_or(0) as u32
 }
 
 // Whether no byte is 0.

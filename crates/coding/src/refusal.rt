@@ -1,6 +1,6 @@
 // Why a call refuses: the paper's table, by name.
 ghost use Rattle.std.specs.Prelude.{◌≡◌};
-ghost use Rattle.coding.specs.Answers.{number_of, room_of};
+ghost use Rattle.coding.specs.Answers.{number_of};
 
 use std::error::Error;
 use std::fmt;
@@ -39,16 +39,6 @@ impl Refusal {
             Refusal::Room(_) => 6,
             Refusal::Text => 7,
             Refusal::Entry => 8,
-        }
-    }
-
-    // The room needed, where that is what was missing.
-    pub fn room(self) -> usize
-        ensures { result ≡ room_of self }
-    {
-        match self {
-            Refusal::Room(need) => need,
-            _ => 0,
         }
     }
 }

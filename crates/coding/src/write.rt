@@ -65,7 +65,7 @@ impl Share<'_> {
         ensures bound { result ≤ self.now.count }
     {
         let n = self.count as usize;
-        if self.part.bits { (n + 7) / 8 } else { n }
+        if self.part.bits { n.div_ceil(8) } else { n }
     }
 
     // Lends the part of `out` from `at` on that the section takes to its writer. Returns where the section ends.
@@ -80,7 +80,8 @@ impl Share<'_> {
     }
 }
 
-// Writes the five sections, each from where the section before ended. n numbers have a first byte, n2 a second and n3 a third.
+// Writes the five sections, each from where the section before ended. All n numbers have a first byte, n2 a second and n3 a third. The caller has tested
+// that n, as the other two, is a count of 32 bits, which the length of a slice alone does not say.
 pub fn list(out: &mut [u8], numbers: &[u32], n: u32, n2: u32, n3: u32)
     requires { Counts numbers.now n n2 n3 (length out.old) }
     ensures { out.new ≡ sets out.old 0 (packed numbers.now) }

@@ -1,20 +1,14 @@
 // Runs the coding over the soundings of the paper and over damaged lists, and prints every answer and every buffer.
 #![tactic(auto)]
 
+use coding::Amount;
 use coding::refusal::Refusal;
-use coding::{Amount, Entry};
 use std::io;
 
-// Prints the number of a refusal, or 0, and the amount beside it.
-fn say_amount(rt: &impl Print, answer: Result<usize, Refusal>) -> io::Result<()> {
+// Prints the number of a refusal, or 0, and the number beside it.
+fn say(rt: &impl Print, answer: Result<usize, Refusal>) -> io::Result<()> {
     let Amount { refusal, amount } = answer.into();
     print!(rt; "{refusal} {amount} ")
-}
-
-// Prints the number of a refusal, or 0, and the entry beside it.
-fn say_entry(rt: &impl Print, answer: Result<u32, Refusal>) -> io::Result<()> {
-    let Entry { refusal, number } = answer.into();
-    print!(rt; "{refusal} {number} ")
 }
 
 // Packs numbers into a buffer of 7s that is lent up to `room`, and prints the answer and the whole buffer.
@@ -23,7 +17,7 @@ fn pack(rt: &impl Print, numbers: &[u32], room: usize) -> io::Result<()> {
     let Some(lent) = buffer.get_mut(..room) else {
         return Ok(());
     };
-    say_amount(rt, coding::pack(numbers, lent))?;
+    say(rt, coding::pack(numbers, lent))?;
     for byte in &buffer {
         print!(rt; "{byte} ")?;
     }
@@ -41,7 +35,7 @@ fn singles(rt: &impl Print, numbers: &[u32]) -> io::Result<()> {
 // Prints what entries 0 to 7 are, and one far beyond.
 fn look_up(rt: &impl Print, list: &[u8]) -> io::Result<()> {
     for i in (0..8).chain([1 << 32]) {
-        say_entry(rt, coding::look_up(list, i))?;
+        say(rt, coding::look_up(list, i).map(|n| n as usize))?;
     }
     print!(rt; "\n")
 }
@@ -49,7 +43,7 @@ fn look_up(rt: &impl Print, list: &[u8]) -> io::Result<()> {
 // Prints the ones before places 0 to 17, and before one far beyond.
 fn count_ones(rt: &impl Print, section: &[u8]) -> io::Result<()> {
     for z in (0..18).chain([usize::MAX]) {
-        say_amount(rt, coding::count_ones(section, z))?;
+        say(rt, coding::count_ones(section, z))?;
     }
     print!(rt; "\n")
 }

@@ -1,7 +1,6 @@
 // The walk of the test: from the lists, the claimed bounds and the quarters of a square it finds whether the square fits.
-ghost use Rattle.std.specs.Prelude.{◌≡◌, ◌≢◌, ℕ, true, ◌+◌, ◌*◌, ◌-◌, ◌/◌, ◌%◌, ◌^◌, ◌≤◌, ◌<◌, length, get_or};
+ghost use Rattle.std.specs.Prelude.{◌≡◌, ◌≢◌, ℕ, ◌+◌, ◌*◌, ◌-◌, ◌/◌, ◌%◌, ◌^◌, ◌<◌, length, get_or};
 ghost use Rattle.survey.specs.Raster.{side_limit};
-ghost use Rattle.survey.specs.Sides.{depth_limit};
 ghost use Rattle.survey.specs.Reading.{greatest_in, least_in, lists_in, survey_in, is_file};
 ghost use Rattle.grid.specs.Claims.{Says};
 ghost use Rattle.grid.specs.Test.{depth_in, Bare, Looked, Quartered, Wholly, is_short, is_sized};
@@ -13,65 +12,33 @@ use square::Square;
 use squares::{Pair, Quad};
 use survey::sides;
 
-impl<'a> Grid<'a> {
-    // The same grid, with running counts of its bits.
-    pub fn indexed(
-        self,
-        marks: &'a mut [u32],
-        drops: &'a mut [u32],
-        rises: &'a mut [u32],
-    ) -> Grid<'a>
-        ensures { result ≡ self.entry }
-    {
-        let Grid {
-            file,
-            rows,
-            columns,
-            depth,
-            bounds,
-            split,
-            max,
-            min,
-        } = self;
-        Grid {
-            file,
-            rows,
-            columns,
-            depth,
-            bounds,
-            split: split.indexed(marks),
-            max: max.indexed(drops),
-            min: min.indexed(rises),
-        }
-    }
-
+impl Grid<'_> {
     // Whether the file is the stored form of the survey that it says.
     pub fn is_sound(&self) -> bool
         ensures { result ≡ is_file self.now }
     {
-        let file = self.file;
         if self.bounds.hi == self.bounds.lo {
-            return file.len() == 64;
+            // A heading of 20 bytes and the eleven counts of three empty lists, 4 bytes each.
+            return self.file.len() == 64;
         }
         if self.depth == 0 || !self.is_short() {
             return false;
         }
-        self.is_sized() && self.is_whole()
+        self.is_whole()
     }
 
-    // Whether the lists are no longer than the table of sides allows.
+    // Whether the lists are no longer than the table of sides allows; the paper has the test go by the table's entry counts.
     fn is_short(&self) -> bool
-        requires { 0 < depth_in self.now }
         ensures { let l = lists_in self.now in result ≡ is_short (depth_in self.now - 1) (length l.split_marks) (length l.lmax) (length l.lmin) }
     {
-        let most = sides::of_depth(self.depth).entries;
-        let less = sides::of_depth(self.depth - 1).entries;
+        let above = self.depth.saturating_sub(1);
+        let most = sides::of_depth(above + 1).entries;
+        let less = sides::of_depth(above).entries;
         self.split.len() <= less && self.max.len() <= most && self.min.len() <= less
     }
 
     // Whether T, Lmax and Lmin have the lengths that counting ones level by level gives.
     fn is_sized(&self) -> bool
-        requires { 0 < depth_in self.now }
         ensures { result ≡ is_sized (lists_in self.now) (depth_in self.now - 1) }
     {
         let mut z = 0;
@@ -83,9 +50,8 @@ impl<'a> Grid<'a> {
             && self.min.len() == self.split.ones()
     }
 
-    // Whether the four quarters of the whole square fit, and make its greatest and least.
+    // Whether the lists have their lengths and the four quarters of the whole square fit, and make its greatest and least.
     fn is_whole(&self) -> bool
-        requires sized { is_sized (lists_in self.now) (depth_in self.now - 1) ≡ true }
         requires deep { 0 < depth_in self.now }
         requires uneven { greatest_in self.now ≢ least_in self.now }
         ensures { Wholly (survey_in self.now) (lists_in self.now) (depth_in self.now - 1) (greatest_in self.now) (least_in self.now) result }
@@ -96,7 +62,7 @@ impl<'a> Grid<'a> {
             column: 0,
             place: 0,
         };
-        self.quarters(whole, 0, self.bounds).is_some()
+        self.is_sized() && self.quarters(whole, 0, self.bounds).is_some()
     }
 
     // The pair of a square, if it fits under its parent's.

@@ -4,7 +4,7 @@
 mod check;
 mod heading;
 
-ghost use Rattle.std.specs.Prelude.{◌≡◌, true, ◌≤◌, length, MatchOption};
+ghost use Rattle.std.specs.Prelude.{◌≡◌, true, MatchOption};
 ghost use Rattle.survey.specs.Answers.{as_heading};
 ghost use Rattle.survey.specs.Calls.{Tests};
 ghost use Rattle.survey.specs.Reading.{is_file};
@@ -18,7 +18,7 @@ use squares::Pair;
 use std::marker::Model;
 use survey::{Outline, sides};
 
-// How many running counts T, Lmax and Lmin have at most.
+// How many running counts T, Lmax and Lmin have at most, on a grid of the largest side: one for each 512 bits, and a list has two sections of bits.
 const MARKS: usize = 683;
 
 const DROPS: usize = 5462;
@@ -73,6 +73,23 @@ impl<'a> Grid<'a> {
             max,
             min,
         })
+    }
+
+    // The same grid, with running counts of its bits.
+    pub fn indexed(
+        self,
+        marks: &'a mut [u32],
+        drops: &'a mut [u32],
+        rises: &'a mut [u32],
+    ) -> Grid<'a>
+        ensures { result ≡ self.entry }
+    {
+        Grid {
+            split: self.split.indexed(marks),
+            max: self.max.indexed(drops),
+            min: self.min.indexed(rises),
+            ..self
+        }
     }
 }
 

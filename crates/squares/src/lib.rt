@@ -87,7 +87,7 @@ fn fold(q: [[u32; 2]; 4]) -> Pair
     }
 }
 
-// A level raised by 2,147,483,648.
+// A level raised by 2,147,483,648. The result is a plain number and no type of its own, since raised levels are compared, subtracted and stored as such.
 pub fn raise(z: i32) -> u32
     ensures { result ≡ raised z }
 {

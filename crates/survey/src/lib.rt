@@ -19,7 +19,7 @@ pub struct Outline {
 
 // An outline in the shape that C needs: beside a refusal's number, or 0.
 #[repr(C)]
-#[derive(Clone, Copy)]
+#[derive(Clone, Copy, Debug, PartialEq, Eq)]
 pub struct Heading {
     pub refusal: u32,
     pub rows: u32,
@@ -53,7 +53,7 @@ impl From<Result<Outline, Refusal>> for Heading {
 
 // The level of a cell in the shape that C needs: beside a refusal's number, or 0.
 #[repr(C)]
-#[derive(Clone, Copy)]
+#[derive(Clone, Copy, Debug, PartialEq, Eq)]
 pub struct Level {
     pub refusal: u32,
     pub level: i32,
@@ -75,7 +75,7 @@ impl From<Result<i32, Refusal>> for Level {
 
 // The summary of a window in the shape that C needs: beside a refusal's number, or 0.
 #[repr(C)]
-#[derive(Clone, Copy)]
+#[derive(Clone, Copy, Debug, PartialEq, Eq)]
 pub struct Totals {
     pub refusal: u32,
     pub count: u64,

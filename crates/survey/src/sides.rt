@@ -72,7 +72,7 @@ const SIDES: [Side; 11] = [
     },
 ];
 
-// The row of the table for a depth.
+// The row of the table for a depth, of which the table has eleven.
 pub fn of_depth(depth: usize) -> Side
     requires { depth ≤ depth_limit }
     ensures { result ≡ side_of depth }

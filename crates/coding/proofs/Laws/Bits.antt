@@ -274,13 +274,13 @@ ones_in_block s a n m k h e q =
     omega (arith, ones_in-add s a n, r, q)
 
 -- eight bytes, the first lowest, as one number
-module _ (s : List ℕ) (b : (i : ℕ) → get_or s i 0 < 256) where
+module _ (s : List ℕ) (b : (i : ℕ) → i < 8 → get_or s i 0 < 256) where
   one_less : (k w : ℕ) → k < 8 → Word s 0 (k + 1) w → Word s 0 k (w * 256 + get_or s k 0)
   one_less k w l h =
       let z : 0 + (k + 1 - 1) ≡ k = omega arith in
       let e : k + 1 - 1 ≡ k = omega arith in
       let c : get_or s (0 + (k + 1 - 1)) 0 ≡ get_or s k 0 = ap (λ i. get_or s i 0) z in
-      let r = word_more s 0 (k + 1) w (omega arith) (rw c (b k)) h in
+      let r = word_more s 0 (k + 1) w (omega arith) (rw c (b k l)) h in
       subst (λ x. Word s 0 k (w * 256 + x)) c (subst (λ j. Word s 0 j (w * 256 + get_or s (0 + (k + 1 - 1)) 0)) e r)
 
   abbrev byte : ℕ → ℕ

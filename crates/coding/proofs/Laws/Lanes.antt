@@ -206,6 +206,11 @@ module _ (st cur out : List ℕ) (d v : ℕ) (h : d < length cur) (r : Room st c
         drop-set-lt (get_or st (length cur) 0) out at v (omega (arith, at_in, rising r (suc d) (length cur) h (omega arith)));
   }
 
+-- the place of the next element of a lane that has room for it is before the next lane
+pub lane_in : (b : Bool) (l : Lanes) (d v : ℕ) → d < length l.cur.now → HasRoom b l (only d (v ∷ []))
+    → get_or l.starts.now d 0 + get_or l.cur.now d 0 < get_or l.starts.now (suc d) 0
+lane_in b l d v h r = at_in l.starts.now l.cur.now (view_of b l.out.now) d v h r
+
 -- the place of the next element of lane d is in the buffer
 pub place_in : (b : Bool) (l : Lanes) (d v : ℕ) → d < length l.cur.now → HasRoom b l (only d (v ∷ []))
     → get_or l.starts.now d 0 + get_or l.cur.now d 0 < length (view_of b l.out.now)

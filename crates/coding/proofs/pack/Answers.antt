@@ -1,7 +1,7 @@
 -- `coding::pack` meets its contract: each of the two refusals, too little room, and the list written.
 use mathlib.Core.Path.{◌≡◌, refl}
 use mathlib.Core.List.{List}
-use Prim.Native.Nat.{ℕ, suc, ◌+◌, ◌/◌, ◌≤◌, ◌<◌}
+use Prim.Native.Nat.{ℕ, suc, ◌+◌, ◌≤◌, ◌<◌}
 use native.Mathlib.Omega.{arith}
 use lib.ListN.{length}
 use lib.Seq.{sets}
@@ -12,7 +12,7 @@ use Rattle.coding.specs.Lanes.{count_from}
 use Rattle.coding.specs.Calls.{pack_refusal, Packs}
 use Rattle.coding.proofs.Laws.Items.{count_any, count_no, count_below, length-packed}
 use Rattle.coding.proofs.pack.Goals as goal
-use Rattle.coding.proofs.pack.Goals.{After-count_from-n3}
+use Rattle.coding.proofs.pack.Goals.{After-count_from-n3, After-div_ceil-2}
 
 -- ---- the four ways in which packing ends
 
@@ -64,32 +64,30 @@ none_large q = omega (arith, q.count_from.ensures.0)
 none_refused : (q : After-count_from-n3) → pack_refusal q.args.numbers.now ≡ 0
 none_refused q = no_refusal q.args.numbers.now (omega arith) (none_large q)
 
-abbrev needed : After-count_from-n3 → ℕ
-needed q =
-    let n = length q.args.numbers.now in
-    let m = q.count_from-n2.result in
-    20 + n + (n + 7) / 8 + m + (m + 7) / 8 + q.count_from-n3.result
+abbrev needed : After-div_ceil-2 → ℕ
+needed q = 20 + length q.args.numbers.now + q.div_ceil.result + q.count_from-n2.result + q.div_ceil-2.result + q.count_from-n3.result
 
-needed_is : (q : After-count_from-n3) → needed q ≡ length (packed q.args.numbers.now)
-needed_is q = omega (arith, length-packed q.args.numbers.now, q.count_from-n2.ensures.0, q.count_from-n3.ensures.0)
+needed_is : (q : After-div_ceil-2) → needed q ≡ length (packed q.args.numbers.now)
+needed_is q =
+    omega (arith, length-packed q.args.numbers.now, q.count_from-n2.ensures.0, q.count_from-n3.ensures.0, q.div_ceil.ensures, q.div_ceil-2.ensures)
 
 pub returns-then-out-need : goal.returns-then-out-need
 returns-then-out-need c =
-    let q = (goal.at.returns-then-out-need c).After-count_from-n3 in
-    short c.args.numbers.now c.args.out.now (needed q) (none_refused q) (needed_is q) (omega arith)
+    let q = (goal.at.returns-then-out-need c).After-div_ceil-2 in
+    short c.args.numbers.now c.args.out.now (needed q) (none_refused (goal.at.returns-then-out-need c).After-count_from-n3) (needed_is q) (omega arith)
 
 pub list-requires : goal.list-requires
 list-requires c =
-    let q = (goal.at.list-requires c).After-count_from-n3 in
+    let q = (goal.at.list-requires c).After-div_ceil-2 in
     record {
       all = refl;
       two = c.count_from-n2.ensures.0;
       three = c.count_from-n3.ensures.0;
-      range = count_below number_limit c.args.numbers.now (none_large q);
+      range = count_below number_limit c.args.numbers.now (none_large (goal.at.list-requires c).After-count_from-n3);
       fits = omega (arith, needed_is q);
     }
 
 pub returns : goal.returns
 returns c =
-    let q = (goal.at.returns c).After-count_from-n3 in
-    done c.args.numbers.now c.args.out.now (needed q) c.list.new.out (none_refused q) (needed_is q) (omega arith) c.list.ensures
+    let q = (goal.at.returns c).After-div_ceil-2 in
+    done c.args.numbers.now c.args.out.now (needed q) c.list.new.out (none_refused (goal.at.returns c).After-count_from-n3) (needed_is q) (omega arith) c.list.ensures

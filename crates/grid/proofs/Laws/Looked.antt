@@ -26,7 +26,8 @@ use Rattle.squares.specs.declared.Quad.{Quad}
 use Rattle.std.specs.Prelude.{Option, Some, None}
 use Rattle.std.specs.Option.{is_some}
 use Rattle.grid.specs.Claims.{Fit, Says}
-use Rattle.grid.specs.Test.{Looked, Bare, Quarters, Quartered, Wholly}
+use Rattle.grid.specs.Test.{Looked, Bare, Quarters, Quartered, Wholly, is_sized}
+use Rattle.grid.proofs.Laws.Sized.{sized_is}
 use Rattle.grid.proofs.Laws.Claims.{Flat, flat_none, none_flat, flat_level, flat_cell, cell_flat, flat_even, even_flat, fit_mark, split_fit, fit_split, says_cell, says_even, says_split}
 use Rattle.grid.proofs.Laws.Pairs.{Low, low_under, fold_pair, pair_apart, pair_real}
 
@@ -191,6 +192,10 @@ module _ (A : Raster) (L : Lists) where
     };
     unfit = λ e. no_bit e;
   }
+
+-- lists of other lengths are not those of a whole square
+pub unsized_whole : (A : Raster) (L : Lists) {h g l : ℕ} {ok : Bool} → ok ≡ is_sized L h → ok ≡ false → Wholly A L h g l ok
+unsized_whole A L {h} e n = record { fits = λ t. no_bit (sym t ∙ n); unfit = λ t w. no_bit (sym (sized_is L h w.lengths) ∙ sym e ∙ n) }
 
 -- a reader starts at the quarters of the whole square, of depth h + 1
 pub says-whole : (f : List ℕ) (h : ℕ) → depth_for (rows_in f) (columns_in f) ≡ suc h → (greatest_in f ≡ least_in f → ⊥) → (i : ℕ) → i < 4

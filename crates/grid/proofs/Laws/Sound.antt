@@ -21,7 +21,6 @@ use Rattle.coding.proofs.Laws.Sections.{number_word, word_number, is_starts, sta
 use Rattle.survey.specs.Level.{turned, is_level, lowest_level, highest_level}
 use Rattle.survey.specs.Raster.{Raster, is_real, in_limits, side_limit}
 use Rattle.survey.specs.Sides.{depth_for, depth_of, most_entries}
-use Rattle.survey.specs.Standing.{Sized}
 use Rattle.survey.specs.Square.{Bounds, none, span, bounds_if, bounds_at, bounds_of, greatest_or, least_or, is_uneven}
 use Rattle.survey.specs.Order.{Lists, no_lists}
 use Rattle.survey.specs.Tree.{lists_from, lists_of}
@@ -462,11 +461,6 @@ module _ {f : List ℕ} {depth top low : ℕ} (u : Uneven f depth top low) where
       (le-leb max (most_entries (1 + (depth - 1))) (omega (arith, w.max_short, ap most_entries m)))
       (le-leb min (most_entries (depth - 1)) (omega (arith, w.min_short)))))
       ∙ s))
-
-  pub refused_unsized : 0 < depth → (Sized (lists_in f) (depth - 1) → ⊥) → false ≡ is_file f
-  refused_unsized z n =
-      let k : depth ≡ suc (depth - 1) = omega arith in
-      refused f (λ e. n (file_whole f e (depth - 1) (depth_is (suc (depth - 1)) k) uneven).lengths)
 
   pub found_whole : {a b : ℕ} {ok : Bool} → 0 < depth → Parted f a b → Bytes f → Wholly (survey_in f) (lists_in f) (depth - 1) top low ok → ok ≡ is_file f
   found_whole {a} {b} {ok} z p y w =

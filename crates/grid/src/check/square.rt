@@ -14,7 +14,8 @@ pub struct Square {
 }
 
 impl Square {
-    // Quarter i, where the first one stands at `first`.
+    // Quarter i, where the first one stands at `first`. That the square has quarters is asked here and by `Grid::quarters`, the one caller: a type for such
+    // squares would be made there and taken apart here.
     pub fn quarter(self, i: usize, first: usize) -> Square
         requires open { (0 < self.depth) × (self.row < side_limit) × (self.column < side_limit) }
         requires place { (i < 4) × (first < 2 ^ 40) }

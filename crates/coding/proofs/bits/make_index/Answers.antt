@@ -19,8 +19,8 @@ one_more f x b v h e all k m =
     ⊎_elim (λ p. ap (λ i. get_or (set x b v) i 0) p ∙ get_or-set_same x b v 0 h ∙ e ∙ ap f (sym p))
     (λ p. get_or-set_other x b k v 0 (λ q. absurd (omega arith)) ∙ all k p) c
 
-pub overflow_cast-index : goal.overflow_cast-index
-overflow_cast-index c = omega (arith, c.loop-b.invariant.sums, ones_in_le c.args.s.now (64 * c.loop-b.b))
+pub overflow_cast-count : goal.overflow_cast-count
+overflow_cast-count c = omega (arith, c.loop-b.invariant.sums, ones_in_le c.args.s.now (64 * c.loop-b.b))
 
 pub overflow_add-sum : goal.overflow_add-sum
 overflow_add-sum c =

@@ -21,25 +21,25 @@ use Rattle.grid.proofs.Grid.is_short.Goals.{Joined-len-less, then-len-less, else
 pub of_depth-most-requires : goal.of_depth-most-requires
 of_depth-most-requires c =
     let f = c.self.inside.file.now in
-    omega (arith, c.self.invariant.depth_is, depth_most (rows_in f) (columns_in f))
+    omega (arith, c.self.invariant.depth_is, c.saturating_sub-above.ensures, depth_most (rows_in f) (columns_in f))
 
 pub of_depth-less-requires : goal.of_depth-less-requires
 of_depth-less-requires c =
     let f = c.self.inside.file.now in
-    omega (arith, c.self.invariant.depth_is, depth_most (rows_in f) (columns_in f))
+    omega (arith, c.self.invariant.depth_is, c.saturating_sub-above.ensures, depth_most (rows_in f) (columns_in f))
 
 module _ (c : Joined-len-less) where
   abbrev h : ℕ
   h = depth_in c.args.self.now - 1
 
-  depth : c.self.inside.depth ≡ 1 + (depth_in c.args.self.now - 1)
-  depth = omega (arith, (opened_at c.self.view_is c.self.invariant).depth_is, c.requires)
+  above : c.saturating_sub-above.result ≡ depth_in c.args.self.now - 1
+  above = omega (arith, (opened_at c.self.view_is c.self.invariant).depth_is, c.saturating_sub-above.ensures)
 
   most : c.of_depth-most.result.entries ≡ most_entries (1 + h)
-  most = ap (λ (s : Side). s.entries) c.of_depth-most.ensures ∙ ap most_entries depth
+  most = ap (λ (s : Side). s.entries) c.of_depth-most.ensures ∙ ap most_entries (omega (arith, above))
 
   less : c.of_depth-less.result.entries ≡ most_entries h
-  less = ap (λ (s : Side). s.entries) c.of_depth-less.ensures ∙ ap most_entries (omega (arith, depth))
+  less = ap (λ (s : Side). s.entries) c.of_depth-less.ensures ∙ ap most_entries above
 
   two : c.if-len-less.value ≡ leb (length c.self.inside.split) (most_entries h) && leb (length c.self.inside.max) (most_entries (1 + h))
   two =

@@ -25,7 +25,7 @@ next_start split d z r h e o =
 
 pub loop-preserved : goal.loop-preserved
 loop-preserved c =
-    (omega arith, next_start c.self.inside.split c.loop.counter c.loop.z c.ones_before.result c.loop.invariant.0 c.loop.invariant.1 c.ones_before.ensures.0)
+    (omega arith, omega arith, next_start c.self.inside.split c.loop.counter c.loop.z c.ones_before.result c.loop.invariant.0 c.loop.invariant.2 c.ones_before.ensures.0)
 
 module _ (c : Joined-len-z) where
   abbrev found : Lists
@@ -50,8 +50,8 @@ module _ (c : Joined-len-z) where
       ≡ is_sized (lists_in c.args.self.now) (depth_in c.args.self.now - 1)
   tests =
       let o = opened_at c.self.view_is c.self.invariant in
-      let e : c.loop.counter ≡ c.self.inside.depth = omega (arith, o.depth_is, c.requires) in
-      let z = c.loop.invariant.1 ∙ ap (λ n. start_of c.self.inside.split (n - 1) 0) (e ∙ o.depth_is) in
+      let e : c.loop.counter - 1 ≡ depth_in c.args.self.now - 1 = omega (arith, o.depth_is) in
+      let z = c.loop.invariant.2 ∙ ap (λ n. start_of c.self.inside.split n 0) e in
       sized_test found (depth_in c.args.self.now - 1) c.loop.z z
       ∙ ap (λ (l : Lists). is_sized l (depth_in c.args.self.now - 1)) (lists_are c.self.view_is c.self.invariant)
 

@@ -1,15 +1,12 @@
 -- `grid::Grid::is_sound` meets its contract: an even survey has nothing behind its heading but eleven counts, and of any other the squares tell.
 use mathlib.Core.Path.{◌≡◌, refl, sym, ap, ◌∙◌}
-use Prim.Native.Nat.{◌-◌, ◌<◌}
 use native.Mathlib.Omega.{arith}
-use Rattle.coding.proofs.Laws.Lists.{no_bit}
-use Rattle.survey.specs.Reading.{greatest_in, least_in, lists_in, is_file}
+use Rattle.survey.specs.Reading.{greatest_in, least_in, is_file}
 use Rattle.grid.specs.Test.{depth_in}
 use Rattle.grid.proofs.Laws.Places.{opened_at}
-use Rattle.grid.proofs.Laws.Sized.{sized_is}
-use Rattle.grid.proofs.Laws.Sound.{Uneven, refused_flat, refused_long, refused_unsized, found_whole, found_even}
+use Rattle.grid.proofs.Laws.Sound.{Uneven, refused_flat, refused_long, found_whole, found_even}
 use Rattle.grid.proofs.Grid.is_sound.Goals as goal
-use Rattle.grid.proofs.Grid.is_sound.Goals.{Else-self, Else-not-is_short, then-self-eq0-via-then-self-eq0, then-self-eq0-via-else-self-eq0+then-not-is_short}
+use Rattle.grid.proofs.Grid.is_sound.Goals.{Else-self, then-self-eq0-via-then-self-eq0, then-self-eq0-via-else-self-eq0+then-not-is_short}
 
 pub returns-then-self : goal.returns-then-self
 returns-then-self c =
@@ -38,25 +35,13 @@ returns-then-self-eq0 c =
           refused_long (heading e) (omega (arith, depth e, w.if-self-eq0.false)) refl refl refl (sym w.is_short.ensures ∙ w.if-not-is_short.true)
     ]
 
--- where the lists have their lengths
-deep : (c : Else-not-is_short) → 0 < depth_in c.args.self.now
-deep c = omega (arith, (opened_at c.self.view_is c.self.invariant).depth_is, c.if-self-eq0.false)
-
 pub is_whole-requires : goal.is_whole-requires
 is_whole-requires c = record {
-  sized = sym c.is_sized.ensures ∙ c.if-is_sized.true;
-  deep = deep (goal.at.is_whole-requires c).Else-not-is_short;
+  deep = omega (arith, (opened_at c.self.view_is c.self.invariant).depth_is, c.if-self-eq0.false);
   uneven = uneven (goal.at.is_whole-requires c).Else-self;
 }
 
-pub returns-then-is_sized : goal.returns-then-is_sized
-returns-then-is_sized c =
+pub returns : goal.returns
+returns c =
     let o = opened_at c.self.view_is c.self.invariant in
-    found_whole (heading (goal.at.returns-then-is_sized c).Else-self) (deep (goal.at.returns-then-is_sized c).Else-not-is_short) o.parted o.bytes c.is_whole.ensures
-
-pub returns-else-is_sized : goal.returns-else-is_sized
-returns-else-is_sized c =
-    let e = (goal.at.returns-else-is_sized c).Else-self in
-    c.if-is_sized.false
-    ∙ refused_unsized (heading e) (deep (goal.at.returns-else-is_sized c).Else-not-is_short)
-    (λ s. no_bit (sym (sized_is (lists_in c.args.self.now) (depth_in c.args.self.now - 1) s) ∙ sym c.is_sized.ensures ∙ c.if-is_sized.false))
+    found_whole (heading (goal.at.returns c).Else-self) (omega (arith, o.depth_is, c.if-self-eq0.false)) o.parted o.bytes c.is_whole.ensures

@@ -1,5 +1,5 @@
 -- `grid::Grid::is_whole` meets its contract: the four quarters of the whole square are what a reader starts at, and their pairs make its own.
-use mathlib.Core.Path.{sym, ap, subst}
+use mathlib.Core.Path.{◌∙◌, sym, ap, subst}
 use Prim.Native.Nat.{ℕ, ◌-◌}
 use native.Mathlib.Omega.{arith}
 use Rattle.survey.specs.Reading.{rows_in, columns_in, lists_in, survey_in}
@@ -8,7 +8,7 @@ use Rattle.survey.proofs.Laws.Sides.{depth_most}
 use Rattle.grid.specs.Test.{depth_in}
 use Rattle.grid.proofs.Laws.Places.{opened_at, rows_within, columns_within}
 use Rattle.grid.proofs.Laws.Sized.{is_sized_lem}
-use Rattle.grid.proofs.Laws.Looked.{looked_whole, says_first, wholly_same}
+use Rattle.grid.proofs.Laws.Looked.{looked_whole, says_first, wholly_same, unsized_whole}
 use Rattle.grid.proofs.Grid.is_whole.Goals as goal
 
 pub invariant_of-whole : goal.invariant_of-whole
@@ -21,12 +21,18 @@ quarters-requires-clause-says c =
     let o = opened_at c.self.view_is c.self.invariant in
     says_first c.args.self.now o.depth_is (omega (arith, o.depth_is, c.requires.deep)) o.greatest_is c.requires.uneven
 
-pub returns : goal.returns
-returns c =
+pub returns-then-is_sized : goal.returns-then-is_sized
+returns-then-is_sized c =
     let f = c.args.self.now in
     let o = opened_at c.self.view_is c.self.invariant in
     let h = ap (λ (n : ℕ). n - 1) o.depth_is in
+    let s = is_sized_lem (lists_in f) (depth_in f - 1) (sym c.is_sized.ensures ∙ c.if-is_sized.true) in
     wholly_same h o.greatest_is o.least_is (sym c.is_some.ensures)
     (looked_whole (survey_in f) (lists_in f) c.quarters.result
-    (subst (Sized (lists_in f)) (sym h) (is_sized_lem (lists_in f) (depth_in f - 1) c.requires.sized)) (omega (arith, (rows_within f o.parted).0)) (omega (arith, (columns_within f o.parted).0))
+    (subst (Sized (lists_in f)) (sym h) s) (omega (arith, (rows_within f o.parted).0)) (omega (arith, (columns_within f o.parted).0))
     c.quarters.ensures)
+
+pub returns-else-is_sized : goal.returns-else-is_sized
+returns-else-is_sized c =
+    let f = c.args.self.now in
+    unsized_whole (survey_in f) (lists_in f) c.is_sized.ensures c.if-is_sized.false

@@ -1,6 +1,7 @@
 -- Laws about the definitions of the coding, which the proofs of its functions and of other crates cite.
 pub mod Packing
 pub mod Bits
+pub mod Seen
 pub mod Places
 pub mod Lists
 pub mod Sections

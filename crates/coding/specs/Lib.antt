@@ -6,4 +6,6 @@ pub mod Sections
 pub mod Answers
 pub mod Calls
 pub mod Places
+pub mod Seen
+pub mod Numbers
 pub mod Lanes

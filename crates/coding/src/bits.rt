@@ -1,37 +1,29 @@
 // Bits in bytes, the ones among them, and running counts of ones.
 ghost use Rattle.std.specs.Prelude.{◌≡◌, false, ◌+◌, ◌*◌, ◌/◌, ◌%◌, ◌^◌, ◌≤◌, ◌<◌, eqb, length, get_or, take};
 ghost use Rattle.std.specs.Int.Count as Count;
-ghost use Rattle.coding.specs.Bits.{pack_bits, ones, ones_before};
+ghost use Rattle.coding.specs.Bits.{pack_bits};
 ghost use Rattle.coding.specs.Sections.{same};
 ghost use Rattle.coding.specs.Places.{bits_of, ones_in, Index};
 
-use std::marker::Model;
-
-// The first `count` bits of some bytes, seen as the list of them: bits may end within a byte, so the bytes do not tell how many. `index` has the ones
-// before each block of 512 bits; it may end early, or have none.
-#[derive(Drop)]
+// The first `count` bits of some bytes: bits may end within a byte, so the bytes do not tell how many. `index` has the ones before each block of 512
+// bits; it may end early, or have none. The invariant is a ghost field and no view, since a value with a lifetime and a view cannot be copied.
+#[derive(Clone, Copy)]
 pub struct Bits<'a> {
     pub bytes: &'a [u8],
     pub count: usize,
     pub index: &'a [u32],
-}
-
-impl<'a> Model for Bits<'a> {
-    ghost use Rattle.std.specs.Prelude.{List, Bool};
-    ghost use Rattle.coding.specs.Places.{bits_of, Index};
-
-    ghost Value = { List Bool };
-
-    ghost view = { λ b. bits_of b.bytes.now b.count };
-
-    ghost invariant = { λ b. Index b.bytes.now b.count b.index.now };
+    pub ghost counted: { Index bytes.now count index.now },
 }
 
 impl<'a> Bits<'a> {
+    ghost use Rattle.std.specs.Prelude.{◌≡◌, false, ◌+◌, ◌*◌, ◌/◌, ◌^◌, ◌≤◌, ◌<◌, length, get_or};
+    ghost use Rattle.coding.specs.Bits.{ones, ones_before};
+    ghost use Rattle.coding.specs.Seen.{bits_in, blocks, HasCounts};
+
     // The first bits of some bytes, without running counts.
     pub fn new(bytes: &'a [u8], count: usize) -> Bits<'a>
         requires { (count ≤ 8 * length bytes.now) × (count < 2 ^ 32) }
-        ensures { result ≡ bits_of bytes.now count }
+        ensures { bits_in result ≡ bits_of bytes.now count }
     {
         Bits {
             bytes,
@@ -42,44 +34,48 @@ impl<'a> Bits<'a> {
 
     // The same bits, with running counts made in `index` as far as it reaches.
     pub fn indexed(self, index: &'a mut [u32]) -> Bits<'a>
-        ensures { result ≡ self.entry }
+        ensures { (bits_in result ≡ bits_in self.entry) × HasCounts result (length index.old) }
     {
         let blocks = self.blocks().min(index.len());
         let index = &mut index[..blocks];
         make_index(self.bytes, self.count, index);
-        Bits { index, ..self }
+        Bits {
+            bytes: self.bytes,
+            count: self.count,
+            index,
+        }
     }
 
     // How many running counts there are, one for each block of 512 bits.
     pub(crate) fn blocks(&self) -> usize
-        ensures { result ≡ (length self.now + 511) / 512 }
+        ensures { result ≡ blocks self.now }
     {
         self.len().div_ceil(512)
     }
 
     pub fn len(&self) -> usize
-        ensures { (result ≡ length self.now) × (result < 2 ^ 32) }
+        ensures { (result ≡ length (bits_in self.now)) × (result < 2 ^ 32) }
     {
         self.count
     }
 
     // The bit i; beyond them, no.
     pub fn get(&self, i: usize) -> bool
-        ensures { result ≡ get_or self.now i false }
+        ensures { result ≡ get_or (bits_in self.now) i false }
     {
         get(self.bytes, self.count, i)
     }
 
     // All ones.
     pub fn ones(&self) -> usize
-        ensures { result ≡ ones self.now }
+        ensures { result ≡ ones (bits_in self.now) }
     {
         self.ones_before(self.count)
     }
 
     // The ones before place z; beyond the last bit, all of them.
     pub fn ones_before(&self, z: usize) -> usize
-        ensures { (result ≡ ones_before self.now z) × (result < 2 ^ 32) }
+        ensures { (result ≡ ones_before (bits_in self.now) z) × (result < 2 ^ 32) }
     {
         if z < self.count {
             return self.ones_inside(z);
@@ -93,8 +89,8 @@ impl<'a> Bits<'a> {
 
     // The ones before the place of a bit, from those before its block; those that the index lacks are counted from the start.
     fn ones_inside(&self, z: usize) -> usize
-        requires { z < length self.now }
-        ensures { result ≡ ones_before self.now z }
+        requires { z < self.now.count }
+        ensures { result ≡ ones_before (bits_in self.now) z }
     {
         let block = z / 512;
         let q = z / 8;
@@ -106,8 +102,7 @@ impl<'a> Bits<'a> {
     }
 }
 
-// Makes the running counts of the first n bits, as many as `index` has room for. Said of bytes and a count, since it makes the third part of `Bits`, which
-// no clause on `Bits` can name.
+// Makes the running counts of the first n bits, as many as `index` has room for. Said of bytes and a count, since it makes the third part of `Bits`.
 pub fn make_index(s: &[u8], n: usize, index: &mut [u32])
     requires n_bound { (n ≤ 8 * length s.now) × (n < 2 ^ 32) }
     requires index_len { 512 * length index.old < n + 512 }
@@ -115,10 +110,8 @@ pub fn make_index(s: &[u8], n: usize, index: &mut [u32])
 {
     let mut sum = 0;
     for (b, count) in index.iter_mut().enumerate() {
+        sum += ones_in(&s[64 * b.saturating_sub(1)..64 * b]);
         *count = sum as u32;
-        let from = 64 * b;
-        let to = (from + 64).min(s.len());
-        sum += ones_in(&s[from..to]);
     }
 }
 

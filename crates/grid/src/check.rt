@@ -12,10 +12,17 @@ use square::Square;
 use squares::{Pair, Quad};
 use survey::sides;
 
+// How many running counts T, Lmax and Lmin have at most, on a grid of the largest side: one for each 512 bits, and a list has two sections of bits.
+const MARKS: usize = 683;
+
+const DROPS: usize = 5462;
+
+const RISES: usize = 1366;
+
 impl Grid<'_> {
     // Whether the file is the stored form of the survey that it says.
     pub fn is_sound(&self) -> bool
-        ensures { result ≡ is_file self.now }
+        ensures { result ≡ is_file self.now.file.now }
     {
         if self.bounds.hi == self.bounds.lo {
             // A heading of 20 bytes and the eleven counts of three empty lists, 4 bytes each.
@@ -24,12 +31,26 @@ impl Grid<'_> {
         if self.depth == 0 || !self.is_short() {
             return false;
         }
-        self.is_whole()
+        self.is_whole_by_counts()
+    }
+
+    // The same as `is_whole`, found by running counts. They are made here and in a frame of their own, since an even survey and most of what is refused
+    // need none.
+    #[inline(never)]
+    fn is_whole_by_counts(&self) -> bool
+        requires deep { 0 < depth_in self.now.file.now }
+        requires uneven { greatest_in self.now.file.now ≢ least_in self.now.file.now }
+        ensures { Wholly (survey_in self.now.file.now) (lists_in self.now.file.now) (depth_in self.now.file.now - 1) (greatest_in self.now.file.now) (least_in self.now.file.now) result }
+    {
+        let mut marks = [0; MARKS];
+        let mut drops = [0; DROPS];
+        let mut rises = [0; RISES];
+        self.indexed(&mut marks, &mut drops, &mut rises).is_whole()
     }
 
     // Whether the lists are no longer than the table of sides allows; the paper has the test go by the table's entry counts.
     fn is_short(&self) -> bool
-        ensures { let l = lists_in self.now in result ≡ is_short (depth_in self.now - 1) (length l.split_marks) (length l.lmax) (length l.lmin) }
+        ensures { let l = lists_in self.now.file.now in result ≡ is_short (depth_in self.now.file.now - 1) (length l.split_marks) (length l.lmax) (length l.lmin) }
     {
         let above = self.depth.saturating_sub(1);
         let most = sides::of_depth(above + 1).entries;
@@ -39,7 +60,7 @@ impl Grid<'_> {
 
     // Whether T, Lmax and Lmin have the lengths that counting ones level by level gives.
     fn is_sized(&self) -> bool
-        ensures { result ≡ is_sized (lists_in self.now) (depth_in self.now - 1) }
+        ensures { result ≡ is_sized (lists_in self.now.file.now) (depth_in self.now.file.now - 1) }
     {
         let mut z = 0;
         for _ in 1..self.depth {
@@ -52,9 +73,9 @@ impl Grid<'_> {
 
     // Whether the lists have their lengths and the four quarters of the whole square fit, and make its greatest and least.
     fn is_whole(&self) -> bool
-        requires deep { 0 < depth_in self.now }
-        requires uneven { greatest_in self.now ≢ least_in self.now }
-        ensures { Wholly (survey_in self.now) (lists_in self.now) (depth_in self.now - 1) (greatest_in self.now) (least_in self.now) result }
+        requires deep { 0 < depth_in self.now.file.now }
+        requires uneven { greatest_in self.now.file.now ≢ least_in self.now.file.now }
+        ensures { Wholly (survey_in self.now.file.now) (lists_in self.now.file.now) (depth_in self.now.file.now - 1) (greatest_in self.now.file.now) (least_in self.now.file.now) result }
     {
         let whole = Square {
             depth: self.depth,
@@ -68,8 +89,8 @@ impl Grid<'_> {
     // The pair of a square, if it fits under its parent's.
     #[cycle(look)]
     fn look(&self, s: Square, parent: Pair) -> Option<Pair>
-        requires { Says (survey_in self.now) (lists_in self.now) s.depth s.place parent.hi s.row s.column }
-        ensures { Looked (survey_in self.now) (lists_in self.now) s.depth s.place parent.hi parent.lo s.row s.column result }
+        requires { Says (survey_in self.now.file.now) (lists_in self.now.file.now) s.depth s.place parent.hi s.row s.column }
+        ensures { Looked (survey_in self.now.file.now) (lists_in self.now.file.now) s.depth s.place parent.hi parent.lo s.row s.column result }
     {
         let drop = self.max.entry(s.place);
         let side = sides::of_depth(s.depth).side;
@@ -102,8 +123,8 @@ impl Grid<'_> {
     #[cycle(look)]
     fn quarters(&self, s: Square, first: usize, own: Pair) -> Option<Pair>
         requires open { (0 < s.depth) × (s.row < side_limit) × (s.column < side_limit) × (first < 2 ^ 40) }
-        requires says { (i : ℕ) → i < 4 → Says (survey_in self.now) (lists_in self.now) (s.depth - 1) (first + i) own.hi (2 * s.row + i / 2) (2 * s.column + i % 2) }
-        ensures { Quartered (survey_in self.now) (lists_in self.now) (s.depth - 1) first own s.row s.column result }
+        requires says { (i : ℕ) → i < 4 → Says (survey_in self.now.file.now) (lists_in self.now.file.now) (s.depth - 1) (first + i) own.hi (2 * s.row + i / 2) (2 * s.column + i % 2) }
+        ensures { Quartered (survey_in self.now.file.now) (lists_in self.now.file.now) (s.depth - 1) first own s.row s.column result }
     {
         let a = self.look(s.quarter(0, first), own)?;
         let b = self.look(s.quarter(1, first), own)?;
@@ -118,8 +139,8 @@ impl Grid<'_> {
 
     // A square without real cells has no difference and no mark.
     fn bare(&self, s: Square, drop: u32) -> Option<Pair>
-        requires { drop ≡ get_or (lists_in self.now).lmax s.place 0 }
-        ensures { Bare (lists_in self.now) s.depth s.place result }
+        requires { drop ≡ get_or (lists_in self.now.file.now).lmax s.place 0 }
+        ensures { Bare (lists_in self.now.file.now) s.depth s.place result }
     {
         if drop != 0 {
             return None;

@@ -4,55 +4,39 @@
 mod check;
 mod heading;
 
-ghost use Rattle.std.specs.Prelude.{◌≡◌, true, MatchOption};
+ghost use Rattle.std.specs.Prelude.{◌≡◌, true, length, MatchOption};
+ghost use Rattle.coding.specs.Seen.{bits_in, HasCounts, HaveCounts};
+ghost use Rattle.coding.specs.Numbers.{numbers_in};
 ghost use Rattle.survey.specs.Answers.{as_heading};
 ghost use Rattle.survey.specs.Calls.{Tests};
 ghost use Rattle.survey.specs.Reading.{is_file};
-ghost use Rattle.grid.specs.Test.{is_headed, IsParted, AreLists};
+ghost use Rattle.grid.specs.Test.{is_headed, IsParted, AreLists, Opened};
 
 use coding::bits::Bits;
 use coding::list::Coded;
 use coding::refusal::Refusal;
 use coding::{section, word};
 use squares::Pair;
-use std::marker::Model;
 use survey::{Outline, sides};
 
-// How many running counts T, Lmax and Lmin have at most, on a grid of the largest side: one for each 512 bits, and a list has two sections of bits.
-const MARKS: usize = 683;
-
-const DROPS: usize = 5462;
-
-const RISES: usize = 1366;
-
-// A file opened whose sections follow one another to its end: what its heading says, and its three lists. It is seen as the file's bytes.
-#[derive(Drop)]
+// A file opened whose sections follow one another to its end: what its heading says, and its three lists.
+#[derive(Clone, Copy)]
 pub struct Grid<'a> {
-    file: &'a [u8],
-    rows: usize,
-    columns: usize,
-    depth: usize,
-    bounds: Pair,
-    split: Bits<'a>,
-    max: Coded<'a>,
-    min: Coded<'a>,
-}
-
-impl<'a> Model for Grid<'a> {
-    ghost use Rattle.std.specs.Prelude.{List, ℕ};
-    ghost use Rattle.grid.specs.Test.{Opened};
-
-    ghost Value = { List ℕ };
-
-    ghost view = { λ g. g.file.now };
-
-    ghost invariant = { λ g. Opened g.file.now g.rows g.columns g.depth g.bounds g.split g.max g.min };
+    pub file: &'a [u8],
+    pub rows: usize,
+    pub columns: usize,
+    pub depth: usize,
+    pub bounds: Pair,
+    pub split: Bits<'a>,
+    pub max: Coded<'a>,
+    pub min: Coded<'a>,
+    pub ghost opened: { Opened file.now rows columns depth bounds (bits_in split) (numbers_in max) (numbers_in min) },
 }
 
 impl<'a> Grid<'a> {
     // The bytes opened, if they have a heading and sections.
     pub fn open(file: &'a [u8]) -> Option<Grid<'a>>
-        ensures { MatchOption result (IsParted file.now → ⊥) (λ g. IsParted file.now × (g ≡ file.now)) }
+        ensures { MatchOption result (IsParted file.now → ⊥) (λ g. IsParted file.now × (g.file.now ≡ file.now)) }
     {
         if !heading::is_headed(file) {
             return None;
@@ -75,20 +59,25 @@ impl<'a> Grid<'a> {
         })
     }
 
-    // The same grid, with running counts of its bits.
+    // The same grid, with running counts of its bits made as far as the three slices reach.
     pub fn indexed(
         self,
         marks: &'a mut [u32],
         drops: &'a mut [u32],
         rises: &'a mut [u32],
     ) -> Grid<'a>
-        ensures { result ≡ self.entry }
+        ensures same { result.file.now ≡ self.entry.file.now }
+        ensures counts { HasCounts result.split (length marks.old) × HaveCounts result.max.sections (length drops.old) × HaveCounts result.min.sections (length rises.old) }
     {
         Grid {
+            file: self.file,
+            rows: self.rows,
+            columns: self.columns,
+            depth: self.depth,
+            bounds: self.bounds,
             split: self.split.indexed(marks),
             max: self.max.indexed(drops),
             min: self.min.indexed(rises),
-            ..self
         }
     }
 }
@@ -96,9 +85,9 @@ impl<'a> Grid<'a> {
 // T, Lmax and Lmin, where they stand behind the heading and nothing is behind them.
 fn lists(file: &[u8]) -> Option<(Bits<'_>, Coded<'_>, Coded<'_>)>
     requires { is_headed file.now ≡ true }
-    ensures { MatchOption result (IsParted file.now → ⊥) (λ l. IsParted file.now × AreLists file.now l.0 l.1 l.2) }
+    ensures { MatchOption result (IsParted file.now → ⊥) (λ l. IsParted file.now × AreLists file.now (bits_in l.0) (numbers_in l.1) (numbers_in l.2)) }
 {
-    let (split, rest) = section::bits(&file[20..])?;
+    let (split, rest) = section::bits_from(file, 20)?;
     let (max, rest) = Coded::read(rest)?;
     let (min, rest) = Coded::read(rest)?;
     if !rest.is_empty() {
@@ -111,11 +100,8 @@ fn lists(file: &[u8]) -> Option<(Bits<'_>, Coded<'_>, Coded<'_>)>
 pub fn is_file(f: &[u8]) -> bool
     ensures { result ≡ is_file f.now }
 {
-    let mut marks = [0; MARKS];
-    let mut drops = [0; DROPS];
-    let mut rises = [0; RISES];
     match Grid::open(f) {
-        Some(grid) => grid.indexed(&mut marks, &mut drops, &mut rises).is_sound(),
+        Some(grid) => grid.is_sound(),
         None => false,
     }
 }

@@ -1,6 +1,6 @@
 -- What a file opened says of its survey: rows and columns, which are within the limits, and what stands in its lists.
 -- Assumes nothing.
-use mathlib.Core.Path.{◌≡◌, ap, ◌∙◌, subst}
+use mathlib.Core.Path.{◌≡◌, ap, ◌∙◌}
 use mathlib.Core.Bool.{Bool, true, false}
 use mathlib.Core.List.{List}
 use Prim.Native.Nat.{ℕ, ◌*◌, ◌^◌, ◌≤◌, ◌<◌}
@@ -40,48 +40,44 @@ module _ (f : List ℕ) where
 
 -- ---- what is read of the file, where the grid was opened
 
-module _ {f g : List ℕ} {rows columns depth : ℕ} {bounds : Pair} {split : List Bool} {max min : List ℕ} (v : f ≡ g)
-    (o : Opened f rows columns depth bounds split max min) where
-  pub drop_is : (z : ℕ) {n : ℕ} → n ≡ get_or max z 0 → n ≡ get_or (lists_in g).lmax z 0
-  drop_is z e = e ∙ ap (λ (l : List ℕ). get_or l z 0) o.lists.max_is ∙ ap (λ (h : List ℕ). get_or (lists_in h).lmax z 0) v
+module _ {f : List ℕ} {rows columns depth : ℕ} {bounds : Pair} {split : List Bool} {max min : List ℕ} (o : Opened f rows columns depth bounds split max min) where
+  pub drop_is : (z : ℕ) {n : ℕ} → n ≡ get_or max z 0 → n ≡ get_or (lists_in f).lmax z 0
+  drop_is z e = e ∙ ap (λ (l : List ℕ). get_or l z 0) o.lists.max_is
 
-  pub rise_is : (z : ℕ) {n : ℕ} → n ≡ get_or min z 0 → n ≡ get_or (lists_in g).lmin z 0
-  rise_is z e = e ∙ ap (λ (l : List ℕ). get_or l z 0) o.lists.min_is ∙ ap (λ (h : List ℕ). get_or (lists_in h).lmin z 0) v
+  pub rise_is : (z : ℕ) {n : ℕ} → n ≡ get_or min z 0 → n ≡ get_or (lists_in f).lmin z 0
+  rise_is z e = e ∙ ap (λ (l : List ℕ). get_or l z 0) o.lists.min_is
 
-  pub mark_is : (z : ℕ) {b : Bool} → b ≡ get_or split z false → b ≡ get_or (lists_in g).split_marks z false
-  mark_is z e = e ∙ ap (λ (l : List Bool). get_or l z false) o.lists.split_is ∙ ap (λ (h : List ℕ). get_or (lists_in h).split_marks z false) v
+  pub mark_is : (z : ℕ) {b : Bool} → b ≡ get_or split z false → b ≡ get_or (lists_in f).split_marks z false
+  mark_is z e = e ∙ ap (λ (l : List Bool). get_or l z false) o.lists.split_is
 
-  pub marks_are : split ≡ (lists_in g).split_marks
-  marks_are = o.lists.split_is ∙ ap (λ (h : List ℕ). (lists_in h).split_marks) v
+  pub marks_are : split ≡ (lists_in f).split_marks
+  marks_are = o.lists.split_is
 
-  pub ones_are : (z : ℕ) {n : ℕ} → n ≡ ones_before split z → n ≡ ones_before (lists_in g).split_marks z
+  pub ones_are : (z : ℕ) {n : ℕ} → n ≡ ones_before split z → n ≡ ones_before (lists_in f).split_marks z
   ones_are z e = e ∙ ap (λ (l : List Bool). ones_before l z) marks_are
 
-  pub opened_at : Opened g rows columns depth bounds split max min
-  opened_at = subst (λ (h : List ℕ). Opened h rows columns depth bounds split max min) v o
-
   -- a test of the code, in rows or columns of the survey
-  pub row_in : (r k side : ℕ) → side ≡ 2 ^ k → r * side < rows → r * 2 ^ k < (survey_in g).rows
-  row_in r k side e h = omega (arith, rows_are g opened_at.rows_are, ap (λ (s : ℕ). r * s) e)
+  pub row_in : (r k side : ℕ) → side ≡ 2 ^ k → r * side < rows → r * 2 ^ k < (survey_in f).rows
+  row_in r k side e h = omega (arith, rows_are f o.rows_are, ap (λ (s : ℕ). r * s) e)
 
-  pub row_past : (r k side : ℕ) → side ≡ 2 ^ k → rows ≤ r * side → (survey_in g).rows ≤ r * 2 ^ k
-  row_past r k side e h = omega (arith, rows_are g opened_at.rows_are, ap (λ (s : ℕ). r * s) e)
+  pub row_past : (r k side : ℕ) → side ≡ 2 ^ k → rows ≤ r * side → (survey_in f).rows ≤ r * 2 ^ k
+  row_past r k side e h = omega (arith, rows_are f o.rows_are, ap (λ (s : ℕ). r * s) e)
 
-  pub column_in : (c k side : ℕ) → side ≡ 2 ^ k → c * side < columns → c * 2 ^ k < (survey_in g).columns
-  column_in c k side e h = omega (arith, columns_are g opened_at.columns_are, ap (λ (s : ℕ). c * s) e)
+  pub column_in : (c k side : ℕ) → side ≡ 2 ^ k → c * side < columns → c * 2 ^ k < (survey_in f).columns
+  column_in c k side e h = omega (arith, columns_are f o.columns_are, ap (λ (s : ℕ). c * s) e)
 
-  pub column_past : (c k side : ℕ) → side ≡ 2 ^ k → columns ≤ c * side → (survey_in g).columns ≤ c * 2 ^ k
-  column_past c k side e h = omega (arith, columns_are g opened_at.columns_are, ap (λ (s : ℕ). c * s) e)
+  pub column_past : (c k side : ℕ) → side ≡ 2 ^ k → columns ≤ c * side → (survey_in f).columns ≤ c * 2 ^ k
+  column_past c k side e h = omega (arith, columns_are f o.columns_are, ap (λ (s : ℕ). c * s) e)
 
   -- a row or column of squares of which one has a real cell
-  pub row_low : (r k : ℕ) → r * 2 ^ k < (survey_in g).rows → r < side_limit
-  row_low r k h = omega (arith, (rows_within g opened_at.parted).1, mul-le-mul_left r (pow_pos k))
+  pub row_low : (r k : ℕ) → r * 2 ^ k < (survey_in f).rows → r < side_limit
+  row_low r k h = omega (arith, (rows_within f o.parted).1, mul-le-mul_left r (pow_pos k))
 
-  pub column_low : (c k : ℕ) → c * 2 ^ k < (survey_in g).columns → c < side_limit
-  column_low c k h = omega (arith, (columns_within g opened_at.parted).1, mul-le-mul_left c (pow_pos k))
+  pub column_low : (c k : ℕ) → c * 2 ^ k < (survey_in f).columns → c < side_limit
+  column_low c k h = omega (arith, (columns_within f o.parted).1, mul-le-mul_left c (pow_pos k))
 
   -- its lists
-  pub lists_are : record { split_marks = split; lmax = max; lmin = min } ≡ lists_in g
+  pub lists_are : record { split_marks = split; lmax = max; lmin = min } ≡ lists_in f
   lists_are =
-      let l = opened_at.lists in
+      let l = o.lists in
       λ i. record { split_marks = l.split_is i; lmax = l.max_is i; lmin = l.min_is i }

@@ -1,26 +1,19 @@
 -- `grid::lists` meets its contract: the sections that are read one behind the other are those that part the file.
 use mathlib.Core.Path.{◌≡◌, sym, ap, ◌∙◌}
 use mathlib.Core.List.{List}
-use Prim.Native.Nat.{ℕ, ◌-◌}
+use Prim.Native.Nat.{ℕ}
 use borrow.Author.Tests.{eqb-true, eqb-false}
-use lib.ListN.{length, take, drop}
+use lib.ListN.{length, drop}
 use Rattle.std.proofs.Common.{rules}
-use Rattle.coding.specs.Sections.{bits_at, after_bits, starts_bits, starts_list}
+use Rattle.coding.specs.Sections.{after_bits, starts_list}
 use Rattle.coding.proofs.Laws.Lists.{no_bit}
-use Rattle.coding.proofs.Laws.Places.{rest_part}
 use Rattle.grid.specs.Test.{IsParted, end_of_marks}
-use Rattle.grid.proofs.Laws.Sound.{is_headed_lem, read_parted, after_marks_is, after_max_is, nothing_left, are_lists}
+use Rattle.grid.proofs.Laws.Sound.{read_parted, after_marks_is, after_max_is, nothing_left, are_lists}
 use Rattle.grid.proofs.lists.Goals as goal
 
-pub slice_bounds-bits-count : goal.slice_bounds-bits-count
-slice_bounds-bits-count c = (is_headed_lem c.args.file.now c.requires).long
-
-pub slice_bounds-bits-start : goal.slice_bounds-bits-start
-slice_bounds-bits-start c = (is_headed_lem c.args.file.now c.requires).long
-
 -- what is behind T, and behind Lmax, of a file that is parted
-behind_marks : {f s : List ℕ} → IsParted f → s ≡ after_bits (take (length f - 20) (drop 20 f)) → s ≡ drop (end_of_marks f) f
-behind_marks {f} p e = after_marks_is f p (e ∙ ap after_bits (rest_part f 20))
+behind_marks : {f s : List ℕ} → IsParted f → s ≡ after_bits (drop 20 f) → s ≡ drop (end_of_marks f) f
+behind_marks {f} p e = after_marks_is f p e
 
 pub returns-in_err-max : goal.returns-in_err-max
 returns-in_err-max c =
@@ -48,8 +41,7 @@ returns c =
     let a = c.in_ok-split.ensures in
     let b = c.in_ok-max.ensures in
     let d = c.in_ok-min.ensures in
-    let s = rest_part f 20 in
     let e = eqb-true _ _ (sym c.is_empty.ensures ∙ c.if-not-is_empty.false) in
-    let p = read_parted f c.requires (ap starts_bits (sym s) ∙ a.0) (a.2 ∙ ap after_bits s) b.0 b.2 d.0 (ap length (sym d.2) ∙ e) in
+    let p = read_parted f c.requires a.0 a.2 b.0 b.2 d.0 (ap length (sym d.2) ∙ e) in
     let q = behind_marks p a.2 in
-    (p, are_lists f p (a.1 ∙ ap bits_at s) q b.1 (after_max_is f q b.2) d.1)
+    (p, are_lists f p a.1 q b.1 (after_max_is f q b.2) d.1)

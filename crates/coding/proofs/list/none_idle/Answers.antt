@@ -10,6 +10,7 @@ use lib.Dec.{eqb}
 use lib.ListN.{length, get_or, drop, drop_of_length-le}
 use lib.Seq.{drop-nil}
 use Rattle.coding.specs.Places.{none_idle}
+use Rattle.coding.specs.Seen.{bits_in}
 use Rattle.coding.proofs.list.none_idle.Goals as goal
 use Rattle.coding.proofs.list.none_idle.Goals.{else-x-eq0-via-then-x-eq0+else-not-get, else-x-eq0-via-else-x-eq0}
 
@@ -49,12 +50,12 @@ none_left s l i h = rw (drop_of_length-le s {i = i} h) refl
 pub returns-then-not-get : goal.returns-then-not-get
 returns-then-not-get c =
     let l = c.loop-i in
-    sym (idle_here c.args.s.now c.args.more.now l.i c.loop-i-test.true c.if-x-eq0.true (sym c.get.ensures ∙ c.if-not-get.true)) ∙ l.invariant
+    sym (idle_here c.args.s.now (bits_in c.args.more.now) l.i c.loop-i-test.true c.if-x-eq0.true (sym c.get.ensures ∙ c.if-not-get.true)) ∙ l.invariant
 
 pub loop-i-preserved : goal.loop-i-preserved
 loop-i-preserved c =
     let s = c.args.s.now in
-    let m = c.args.more.now in
+    let m = bits_in c.args.more.now in
     let l = c.loop-i in
     let same : none_idle (drop (l.i + 1) s) (drop (l.i + 1) m) ≡ none_idle (drop l.i s) (drop l.i m) =
     elim c.else-x-eq0.branch [
@@ -66,4 +67,4 @@ loop-i-preserved c =
 pub returns : goal.returns
 returns c =
     let l = c.loop-i in
-    sym (none_left c.args.s.now c.args.more.now l.i c.loop-i-test.false) ∙ l.invariant
+    sym (none_left c.args.s.now (bits_in c.args.more.now) l.i c.loop-i-test.false) ∙ l.invariant

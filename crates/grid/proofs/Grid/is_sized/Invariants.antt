@@ -2,8 +2,9 @@
 -- quarters of the whole square.
 use mathlib.Core.Path.{◌≡◌}
 use Prim.Native.Nat.{◌-◌, ◌≤◌}
+use Rattle.coding.specs.Seen.{bits_in}
 use Rattle.survey.specs.Standing.{start_of}
 use Rattle.grid.proofs.Grid.is_sized.Given as goal
 
 abbrev pub invariant-loop : goal.invariant-loop
-invariant-loop l = (1 ≤ l.counter) × (l.counter - 1 ≤ l.self-inside.depth - 1) × (l.z ≡ start_of l.self-inside.split (l.counter - 1) 0)
+invariant-loop l = (1 ≤ l.counter) × (l.counter - 1 ≤ l.self.depth - 1) × (l.z ≡ start_of (bits_in l.self.split) (l.counter - 1) 0)

@@ -6,25 +6,25 @@ use Rattle.survey.specs.Reading.{rows_in, columns_in, lists_in, survey_in}
 use Rattle.survey.specs.Standing.{Sized}
 use Rattle.survey.proofs.Laws.Sides.{depth_most}
 use Rattle.grid.specs.Test.{depth_in}
-use Rattle.grid.proofs.Laws.Places.{opened_at, rows_within, columns_within}
+use Rattle.grid.proofs.Laws.Places.{rows_within, columns_within}
 use Rattle.grid.proofs.Laws.Sized.{is_sized_lem}
 use Rattle.grid.proofs.Laws.Looked.{looked_whole, says_first, wholly_same, unsized_whole}
 use Rattle.grid.proofs.Grid.is_whole.Goals as goal
 
 pub invariant_of-whole : goal.invariant_of-whole
 invariant_of-whole c =
-    let f = c.self.inside.file.now in
-    record { within = (omega (arith, c.self.invariant.depth_is, depth_most (rows_in f) (columns_in f)), omega arith, omega arith) }
+    let f = c.args.self.now.file.now in
+    record { within = (omega (arith, c.args.self.now.opened.depth_is, depth_most (rows_in f) (columns_in f)), omega arith, omega arith) }
 
 pub quarters-requires-clause-says : goal.quarters-requires-clause-says
 quarters-requires-clause-says c =
-    let o = opened_at c.self.view_is c.self.invariant in
-    says_first c.args.self.now o.depth_is (omega (arith, o.depth_is, c.requires.deep)) o.greatest_is c.requires.uneven
+    let o = c.args.self.now.opened in
+    says_first c.args.self.now.file.now o.depth_is (omega (arith, o.depth_is, c.requires.deep)) o.greatest_is c.requires.uneven
 
 pub returns-then-is_sized : goal.returns-then-is_sized
 returns-then-is_sized c =
-    let f = c.args.self.now in
-    let o = opened_at c.self.view_is c.self.invariant in
+    let f = c.args.self.now.file.now in
+    let o = c.args.self.now.opened in
     let h = ap (λ (n : ℕ). n - 1) o.depth_is in
     let s = is_sized_lem (lists_in f) (depth_in f - 1) (sym c.is_sized.ensures ∙ c.if-is_sized.true) in
     wholly_same h o.greatest_is o.least_is (sym c.is_some.ensures)
@@ -34,5 +34,5 @@ returns-then-is_sized c =
 
 pub returns-else-is_sized : goal.returns-else-is_sized
 returns-else-is_sized c =
-    let f = c.args.self.now in
+    let f = c.args.self.now.file.now in
     unsized_whole (survey_in f) (lists_in f) c.is_sized.ensures c.if-is_sized.false

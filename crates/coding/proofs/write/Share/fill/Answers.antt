@@ -1,23 +1,39 @@
 -- `coding::write::Share::fill` meets its contract. The numbers fill a single lane. The loop's invariant: what the numbers so far have is put, and there is room for the rest.
-use mathlib.Core.Path.{◌≡◌, sym, ◌∙◌, ap}
-use mathlib.Core.List.{List, [], ◌∷◌}
+use mathlib.Core.Path.{◌≡◌, refl, sym, ◌∙◌, ap}
+use mathlib.Core.List.{List, [], ◌∷◌, ◌++◌}
 use Prim.Native.Nat.{ℕ, zero, suc, ◌+◌, ◌<◌, ◌≤◌}
 use native.Mathlib.Omega.{arith}
 use lib.ListN.{length, take, drop, get_or}
-use Rattle.coding.specs.Lanes.{view_of, item_of, items_of, only, then, Room}
+use lib.Seq.{take_all}
+use Rattle.std.proofs.Common.{rules}
+use Rattle.coding.specs.Lanes.{view_of, item_of, items_of, only, then, total, Room, Started}
 use Rattle.coding.specs.declared.lanes.part.Part.{Part}
 use Rattle.coding.proofs.Laws.Items.{items_turn, items_more}
-use Rattle.coding.proofs.Laws.Lanes.{only-append, only_none, puts_none, puts_same, puts_then, room_same, room_left, lanes_right}
+use Rattle.coding.proofs.Laws.Lanes.{only-append, only_none, puts_none, puts_same, puts_then, room_same, room_left, lanes_right, put_same, Fresh, room_start, full}
 use Rattle.coding.proofs.write.Share.fill.Invariants.{load}
 use Rattle.coding.proofs.write.Share.fill.Goals as goal
 
--- a lane from 0 to n, with nothing put yet, has room for all
-begins : (p : Part) (l out : List ℕ) (n : ℕ) → n ≡ length (items_of p l) → n ≤ length out → Room (0 ∷ n ∷ []) (0 ∷ []) out (load p l)
-begins p l out n g h = record { starts = omega arith; room = at; fits = h }
+-- a lane from 0 to n, with nothing put yet
+started : (n : ℕ) → Started (n ∷ []) (0 ∷ n ∷ [])
+started n = record { count = refl; sums = at }
   where
-    at : (e : ℕ) → e < 1 → get_or (0 ∷ n ∷ []) e 0 + (get_or (0 ∷ []) e 0 + length (load p l e)) ≤ get_or (0 ∷ n ∷ []) (suc e) 0
-    at zero k = omega arith
-    at (suc e) k = absurd (omega arith)
+    at : (e : ℕ) → e ≤ 1 → get_or (0 ∷ n ∷ []) e 0 ≡ total (n ∷ []) e
+    at zero h = refl
+    at (suc zero) h = omega arith
+    at (suc (suc e)) h = absurd (omega arith)
+
+fresh : Fresh (0 ∷ [])
+fresh zero h = refl
+fresh (suc e) h = absurd (omega arith)
+
+-- is as long as what is to be put
+sized : (p : Part) (l : List ℕ) (n : ℕ) → n ≡ length (items_of p l) → (e : ℕ) → e < 1 → get_or (n ∷ []) e 0 ≡ length (load p l e)
+sized p l n g zero h = g
+sized p l n g (suc e) h = absurd (omega arith)
+
+-- and has room for it
+begins : (p : Part) (l out : List ℕ) (n : ℕ) → n ≡ length (items_of p l) → n ≤ length out → Room (0 ∷ n ∷ []) (0 ∷ []) out (load p l)
+begins p l out n g h = room_start (load p l) (n ∷ []) (sized p l n g) (0 ∷ n ∷ []) (0 ∷ []) out (started n) refl fresh (omega arith)
 
 -- the next number's item, before the rest and behind what is put
 module _ (p : Part) (l : List ℕ) (k : ℕ) (h : k < length l) where
@@ -62,3 +78,18 @@ loop-v-preserved c =
           lanes_right (only 0 (item_of s.part (get_or l k 0))) (load s.part (drop (k + 1) l)) (room_same (turn s.part l k h) i.room)
           c.put.ensures;
     }
+
+-- the lane is full once all is put
+pub returns : goal.returns
+returns c =
+    let s = c.args.self.now in
+    let p = s.part in
+    let l = s.numbers.now in
+    let i = c.loop-v.invariant.done in
+    let e : take c.loop-v.v-index l ≡ l = take_all c.loop-v.v-index l (omega arith) in
+    let q = put_same (λ k. ap (λ m. load p m k) e) i.load in
+    let v = view_of p.bits c.args.out.now in
+    let w : view_of p.bits c.loop-v.lanes.out.now ≡ items_of p l ++ drop s.count v =
+    full (load p l) (s.count ∷ []) (sized p l s.count s.counted) (0 ∷ s.count ∷ []) (0 ∷ []) v (started s.count) refl fresh _ _ q
+    ∙ ap (λ m. items_of p l ++ drop m v) (sym s.counted) in
+    search rules

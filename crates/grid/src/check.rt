@@ -12,15 +12,18 @@ use square::Square;
 use squares::{Pair, Quad};
 use survey::sides;
 
-// How many running counts T, Lmax and Lmin have at most, on a grid of the largest side: one for each 512 bits, and a list has two sections of bits.
+// How many running counts T, Lmax and Lmin have at most, on a grid of the largest side: one for each 512 bits, and a list has two sections of bits. One
+// array has them all, since it is quicker to clear than three.
 const MARKS: usize = 683;
 
 const DROPS: usize = 5462;
 
 const RISES: usize = 1366;
 
+const COUNTS: usize = MARKS + DROPS + RISES;
+
 impl Grid<'_> {
-    // Whether the file is the stored form of the survey that it says.
+    // Whether the file is the stored form of the survey that it says. Whatever counts the grid has, it makes its own.
     pub fn is_sound(&self) -> bool
         ensures { result ≡ is_file self.now.file.now }
     {
@@ -42,10 +45,10 @@ impl Grid<'_> {
         requires uneven { greatest_in self.now.file.now ≢ least_in self.now.file.now }
         ensures { Wholly (survey_in self.now.file.now) (lists_in self.now.file.now) (depth_in self.now.file.now - 1) (greatest_in self.now.file.now) (least_in self.now.file.now) result }
     {
-        let mut marks = [0; MARKS];
-        let mut drops = [0; DROPS];
-        let mut rises = [0; RISES];
-        self.indexed(&mut marks, &mut drops, &mut rises).is_whole()
+        let mut counts = [0; COUNTS];
+        let (marks, rest) = counts.split_at_mut(MARKS);
+        let (drops, rises) = rest.split_at_mut(DROPS);
+        self.indexed(marks, drops, rises).is_whole()
     }
 
     // Whether the lists are no longer than the table of sides allows; the paper has the test go by the table's entry counts.

@@ -2,10 +2,12 @@
 -- where counting ones leads.
 use mathlib.Core.Path.{◌≡◌, refl, sym, ap, ◌∙◌}
 use mathlib.Core.Bool.{true, false, ◌&&◌}
+use mathlib.Core.List.{List}
 use lib.Dec.{eqb}
 use borrow.Author.Tests.{eqb-true, eq-eqb}
 use Rattle.coding.proofs.Laws.Lists.{no_bit, and_left, and_right}
 use Rattle.squares.specs.declared.Pair.{Pair}
+use Rattle.grid.specs.declared.check.square.Square.{Square}
 use Prim.Native.Nat.{ℕ, suc, ◌+◌, ◌*◌, ◌-◌, ◌/◌, ◌%◌, ◌^◌, ◌<◌}
 use native.Mathlib.Omega.{arith}
 use lib.ListN.{get_or}
@@ -16,8 +18,6 @@ use Rattle.survey.specs.Square.{bounds_at}
 use Rattle.survey.proofs.Laws.Cells.{none_rows, none_columns}
 use Rattle.squares.specs.Pair.{pair_of}
 use Rattle.std.specs.Prelude.{None}
-use Rattle.survey.specs.Raster.{Raster}
-use Rattle.survey.specs.Order.{Lists}
 use Rattle.grid.specs.Claims.{Fit}
 use Rattle.grid.specs.Test.{Quarters, Quartered}
 use Rattle.grid.proofs.Laws.Places.{drop_is, rise_is, mark_is, ones_are, row_in, row_past, column_in, column_past, row_low, column_low}
@@ -146,33 +146,29 @@ look-returns t c =
 -- ---- quarters
 
 -- one quarter that does not fit is enough
-one_short : (A : Raster) (L : Lists) (k first : ℕ) (own : Pair) (r c i : ℕ) {d z y x : ℕ} → i < 4 → d ≡ k → z ≡ first + i → y ≡ 2 * r + i / 2 → x ≡ 2 * c + i % 2
-    → (Fit A L d z own.hi own.lo y x → ⊥) → Quartered A L k first own r c None
-one_short A L k first own r c i h p q u v n f e = n (fit_move A L (sym p) (sym q) (sym u) (sym v) (f i h))
+one_short : (f : List ℕ) (s : Square) (first : ℕ) (own : Pair) (i : ℕ) {d z y x : ℕ} → i < 4 → d ≡ s.depth - 1 → z ≡ first + i → y ≡ 2 * s.row + i / 2 → x ≡ 2 * s.column + i % 2
+    → (Fit (survey_in f) (lists_in f) d z own.hi own.lo y x → ⊥) → Quartered (survey_in f) (lists_in f) (s.depth - 1) first own s.row s.column None
+one_short f s first own i h p q u v n g e = n (fit_move (survey_in f) (lists_in f) (sym p) (sym q) (sym u) (sym v) (g i h))
 
 pub quarters-returns-in_err-a : goal.quarters-returns-in_err-a
 quarters-returns-in_err-a t c =
     let q = c.quarter.ensures in
-    rw c.from_residual.ensures
-    (one_short (survey_in c.args.self.now.file.now) (lists_in c.args.self.now.file.now) (c.args.s.depth - 1) c.args.first c.args.own c.args.s.row c.args.s.column 0 (omega arith) q.depth q.place q.row q.column c.in_err-a.ensures)
+    rw c.from_residual.ensures (one_short c.args.self.now.file.now c.args.s c.args.first c.args.own 0 (omega arith) q.depth q.place q.row q.column c.in_err-a.ensures)
 
 pub quarters-returns-in_err-b : goal.quarters-returns-in_err-b
 quarters-returns-in_err-b t c =
     let q = c.quarter-2.ensures in
-    rw c.from_residual-in_err-b.ensures
-    (one_short (survey_in c.args.self.now.file.now) (lists_in c.args.self.now.file.now) (c.args.s.depth - 1) c.args.first c.args.own c.args.s.row c.args.s.column 1 (omega arith) q.depth q.place q.row q.column c.in_err-b.ensures)
+    rw c.from_residual-in_err-b.ensures (one_short c.args.self.now.file.now c.args.s c.args.first c.args.own 1 (omega arith) q.depth q.place q.row q.column c.in_err-b.ensures)
 
 pub quarters-returns-in_err-c : goal.quarters-returns-in_err-c
 quarters-returns-in_err-c t c =
     let q = c.quarter-3.ensures in
-    rw c.from_residual-in_err-c.ensures
-    (one_short (survey_in c.args.self.now.file.now) (lists_in c.args.self.now.file.now) (c.args.s.depth - 1) c.args.first c.args.own c.args.s.row c.args.s.column 2 (omega arith) q.depth q.place q.row q.column c.in_err-c.ensures)
+    rw c.from_residual-in_err-c.ensures (one_short c.args.self.now.file.now c.args.s c.args.first c.args.own 2 (omega arith) q.depth q.place q.row q.column c.in_err-c.ensures)
 
 pub quarters-returns-in_err-d : goal.quarters-returns-in_err-d
 quarters-returns-in_err-d t c =
     let q = c.quarter-4.ensures in
-    rw c.from_residual-in_err-d.ensures
-    (one_short (survey_in c.args.self.now.file.now) (lists_in c.args.self.now.file.now) (c.args.s.depth - 1) c.args.first c.args.own c.args.s.row c.args.s.column 3 (omega arith) q.depth q.place q.row q.column c.in_err-d.ensures)
+    rw c.from_residual-in_err-d.ensures (one_short c.args.self.now.file.now c.args.s c.args.first c.args.own 3 (omega arith) q.depth q.place q.row q.column c.in_err-d.ensures)
 
 -- the four fit, and make the pair above
 all : (t : ℕ) (c : quarters-After-eq t) → Quarters (survey_in c.args.self.now.file.now) (lists_in c.args.self.now.file.now) (c.args.s.depth - 1) c.args.first c.args.own c.args.s.row c.args.s.column
